@@ -1,0 +1,202 @@
+-- What the loops of src/bytes.rt and src/words.rt compute, as numbers of b bits. Stated over b, which is 16 or 8. Assumes nothing.
+use Prim.Native.Nat.{ℕ, zero, suc, _+_, _*_, _-_, _/_, _%_, _^_, _≤_, _<_, min}
+use mathlib.Core.Path.{_≡_, refl, sym, ap, subst, _∙_}
+use mathlib.Core.Bool.{Bool, true, false, cond, not, _&&_, _||_}
+use mathlib.Core.List.{List, [], _∷_, _++_}
+use mathlib.Core.Logic.{_⊎_, ⊎-elim}
+use native.Mathlib.Nat.{add-zero, add-suc, add-comm}
+use native.Mathlib.Numerals.{add-one}
+use native.Mathlib.Omega.{arith}
+use lib.Dec.{eqb, ltb}
+use lib.ListN.{getD, replicate}
+use lib.IntN.{ℤ}
+use lib.Bits.{bitAnd, bitOr, bitXor, or-self, or-zero-l, or-zero-r}
+use borrow.Author.Tests.{eq-eqb, ne-eqb, lt-ltb, le-ltb}
+use Rattle.bits.specs.Bits.{anyBelow, allBelow, numberOf, tabulate}
+use Rattle.bits.proofs.Below.{or-true, and-true, and-false, any-more-below, all-cut, below-or, number-same}
+use Rattle.bits.proofs.Lists.{getD-tabulate, tabulate-same}
+use Rattle.bits.proofs.Numbers.{number-and, number-both, number-or, number-xor, number-cut, number-shift, number-zero, number-bits, no-bits}
+use Rattle.pcmpstr.specs.declared.Aggregation.the-variants.{EqualEach, EqualOrdered}
+use Rattle.pcmpstr.specs.Compare.{override}
+use Rattle.pcmpstr.specs.Parts.{isIn, anyOf, between, inRange, rangesOf, eachOf, follows, orderedOf}
+
+-- `bits::first(l)` in a number of b bits
+pub first-cut : (b l v : ℕ) → b ≤ 16 → l ≤ b → v ≡ numberOf 16 (λ j. ltb j l) → v ≡ numberOf b (λ j. ltb j l)
+first-cut b l v h u e = e ∙ number-cut 16 b (λ j. ltb j l) h (λ i w z. le-ltb i l (omega arith))
+
+-- ---- equal any
+
+both-sides : (a e v : Bool) → (a && v || (e && v)) ≡ (a || e) && v
+both-sides true true true = refl
+both-sides true true false = refl
+both-sides true false true = refl
+both-sides true false false = refl
+both-sides false e v = refl
+
+module _ (b : ℕ) (x₁ : List ℕ) (x₂ : List ℕ) (l₂ : ℕ) (h : b ≤ 16) (h₂ : l₂ ≤ b) where
+  -- no element of operand 1 yet
+  pub any-start : 0 ≡ numberOf b (anyOf x₁ 0 x₂ l₂)
+  any-start = no-bits b
+
+  -- one element of operand 1 more
+  pub any-more : (i r s v : ℕ) → r ≡ numberOf b (anyOf x₁ i x₂ l₂) → s ≡ numberOf b (λ j. eqb (getD x₂ j 0) (getD x₁ i 0)) → v ≡ numberOf 16 (λ j. ltb j l₂) → bitOr r (bitAnd s v) ≡ numberOf b (anyOf x₁ (i + 1) x₂ l₂)
+  any-more i r s v d e f =
+      rw (d, e, first-cut b l₂ v h h₂ f, number-both b (λ j. eqb (getD x₂ j 0) (getD x₁ i 0)) (λ j. ltb j l₂), add-one)
+      (number-or b (anyOf x₁ i x₂ l₂) (λ j. eqb (getD x₂ j 0) (getD x₁ i 0) && ltb j l₂)
+      ∙ number-same b _ (anyOf x₁ (suc i) x₂ l₂) (λ j u. both-sides (isIn x₁ i (getD x₂ j 0)) (eqb (getD x₂ j 0) (getD x₁ i 0)) (ltb j l₂)))
+
+  full-bit : (s t v : Bool) → (s ≡ true → t ≡ true) → s && v ≡ v → s && v ≡ t && v
+  full-bit true t true f e = rw (f refl)
+  full-bit true true false f e = refl
+  full-bit true false false f e = refl
+  full-bit false true false f e = refl
+  full-bit false false false f e = refl
+  full-bit false true true f e = e
+  full-bit false false true f e = refl
+
+  -- every valid element found: the other elements of operand 1 change nothing
+  pub any-full : (i n r v : ℕ) → i ≤ n → r ≡ numberOf b (anyOf x₁ i x₂ l₂) → v ≡ numberOf 16 (λ j. ltb j l₂) → r ≡ v → r ≡ numberOf b (anyOf x₁ n x₂ l₂)
+  any-full i n r v u d f e =
+      d
+      ∙ number-same b (anyOf x₁ i x₂ l₂) (anyOf x₁ n x₂ l₂)
+      (λ j w.
+      full-bit (isIn x₁ i (getD x₂ j 0)) (isIn x₁ n (getD x₂ j 0)) (ltb j l₂) (any-more-below (λ m. eqb (getD x₂ j 0) (getD x₁ m 0)) i n u)
+      (number-bits b j (anyOf x₁ i x₂ l₂) (λ m. ltb m l₂) w (sym d ∙ e ∙ first-cut b l₂ v h h₂ f)))
+
+-- ---- ranges: rows of marks, 0 or v
+
+replicate-more : (n : ℕ) → _≡_ {A = List ℕ} (replicate (suc n) 0) (replicate n 0 ++ (0 ∷ []))
+replicate-more zero = refl
+replicate-more (suc n) = ap (λ (xs : List ℕ). 0 ∷ xs) (replicate-more n)
+
+replicated : (n : ℕ) → _≡_ {A = List ℕ} (replicate n 0) (tabulate n (λ j. 0))
+unfolding tabulate
+replicated zero = refl
+replicated (suc n) = replicate-more n ∙ ap (λ (xs : List ℕ). xs ++ (0 ∷ [])) (replicated n)
+
+marks-or : (v : ℕ) (s t : Bool) → bitOr (cond s v 0) (cond t v 0) ≡ cond (s || t) v 0
+marks-or v true true = or-self v
+marks-or v true false = or-zero-r v
+marks-or v false true = or-zero-l v
+marks-or v false false = refl
+
+module _ (b v : ℕ) (value : ℕ → ℤ) (x₁ x₂ : List ℕ) where
+  -- the marks of the first i ranges
+  abbrev pub rowTo : ℕ → List ℕ
+  rowTo i = tabulate b (λ j. cond (inRange value x₁ i (getD x₂ j 0)) v 0)
+
+  pub row-start : (row : List ℕ) → row ≡ replicate b 0 → row ≡ rowTo 0
+  row-start row e = e ∙ replicated b
+
+  pub row-more : (i : ℕ) (row next : List ℕ) → row ≡ rowTo i → next ≡ tabulate b (λ j. bitOr (getD row j 0) (cond (between value (getD x₁ (2 * i) 0) (getD x₁ (2 * i + 1) 0) (getD x₂ j 0)) v 0)) → next ≡ rowTo (i + 1)
+  row-more i row next d e =
+      rw (e, d, add-one i)
+      (tabulate-same b _ (λ j. cond (inRange value x₁ (suc i) (getD x₂ j 0)) v 0)
+      (λ j u.
+      rw (getD-tabulate b j (λ m. cond (inRange value x₁ i (getD x₂ m 0)) v 0) 0 u)
+      (marks-or v (inRange value x₁ i (getD x₂ j 0)) (between value (getD x₁ (2 * i) 0) (getD x₁ (2 * i + 1) 0) (getD x₂ j 0)))))
+
+  marked : (t : Bool) → 0 < v → eqb (cond t v 0) v ≡ t
+  marked true z = eq-eqb v v refl
+  marked false z = ne-eqb 0 v (λ e. omega arith)
+
+  -- the row read back as a number, cut to the valid elements
+  pub ranges-made : (n l₂ s w : ℕ) (row : List ℕ) → 0 < v → b ≤ 16 → l₂ ≤ b → row ≡ rowTo n → s ≡ numberOf b (λ j. eqb (getD row j 0) v) → w ≡ numberOf 16 (λ j. ltb j l₂) → bitAnd s w ≡ numberOf b (rangesOf value x₁ n x₂ l₂)
+  ranges-made n l₂ s w row z h u d e f =
+      rw (e, first-cut b l₂ w h u f, number-both b (λ j. eqb (getD row j 0) v) (λ j. ltb j l₂))
+      (number-same b _ (rangesOf value x₁ n x₂ l₂)
+      (λ j y.
+      let m : eqb (getD row j 0) v ≡ inRange value x₁ n (getD x₂ j 0) =
+          rw (d, getD-tabulate b j (λ i. cond (inRange value x₁ n (getD x₂ i 0)) v 0) 0 y) (marked (inRange value x₁ n (getD x₂ j 0)) z) in
+      ap (λ (t : Bool). t && ltb j l₂) m))
+
+-- ---- equal each
+
+each-bit : (v w e : Bool) → (e && v && w || not (v || w)) ≡ override EqualEach v w e
+each-bit true true true = refl
+each-bit true true false = refl
+each-bit true false true = refl
+each-bit true false false = refl
+each-bit false true true = refl
+each-bit false true false = refl
+each-bit false false true = refl
+each-bit false false false = refl
+
+pub each-made : (b : ℕ) (x₁ : List ℕ) (l₁ : ℕ) (x₂ : List ℕ) (l₂ : ℕ) (e v w ones : ℕ) → b ≤ 16 → l₁ ≤ b → l₂ ≤ b → ones ≡ numberOf b (λ j. true) → e ≡ numberOf b (λ j. eqb (getD x₂ j 0) (getD x₁ j 0)) → v ≡ numberOf 16 (λ j. ltb j l₁) → w ≡ numberOf 16 (λ j. ltb j l₂) → bitOr (bitAnd (bitAnd e v) w) (bitXor (bitOr v w) ones) ≡ numberOf b (eachOf x₁ l₁ x₂ l₂)
+each-made b x₁ l₁ x₂ l₂ e v w ones h h₁ h₂ o d f g =
+    rw (d, first-cut b l₁ v h h₁ f, first-cut b l₂ w h h₂ g, o, number-both b (λ j. eqb (getD x₂ j 0) (getD x₁ j 0)) (λ j. ltb j l₁), number-both b (λ j. eqb (getD x₂ j 0) (getD x₁ j 0) && ltb j l₁) (λ j. ltb j l₂), number-or b (λ j. ltb j l₁) (λ j. ltb j l₂), number-xor b (λ j. ltb j l₁ || ltb j l₂) (λ j. true), number-or b (λ j. eqb (getD x₂ j 0) (getD x₁ j 0) && ltb j l₁ && ltb j l₂) (λ j. not (ltb j l₁ || ltb j l₂)))
+    (number-same b _ (eachOf x₁ l₁ x₂ l₂) (λ i u. each-bit (ltb i l₁) (ltb i l₂) (eqb (getD x₂ i 0) (getD x₁ i 0))))
+
+-- ---- equal ordered
+
+ordered-bit : (v e : Bool) → (e && v || false) ≡ override EqualOrdered true v e
+ordered-bit true true = refl
+ordered-bit true false = refl
+ordered-bit false true = refl
+ordered-bit false false = refl
+
+all-fewer : (p : ℕ → Bool) (m d : ℕ) → allBelow m p ≡ false → allBelow (m + d) p ≡ false
+all-fewer p m zero e = rw add-zero e
+all-fewer p m (suc d) e = rw (add-suc, all-fewer p m d e)
+
+all-less : (p : ℕ → Bool) (m n : ℕ) → m ≤ n → allBelow m p ≡ false → allBelow n p ≡ false
+all-less p m n h e =
+    let q : m + (n - m) ≡ n = omega arith in
+    rw q at (all-fewer p m (n - m) e)
+
+-- the first i elements of operand 1 stand in operand 2 from j on
+abbrev pub standingTo : ℕ → List ℕ → ℕ → List ℕ → ℕ → ℕ → ℕ → Bool
+standingTo b x₁ l₁ x₂ l₂ i j = allBelow (min i (b - j)) (follows x₁ l₁ x₂ l₂ j)
+
+-- element i of operand 1 at t; past the block nothing is compared
+abbrev matching : ℕ → List ℕ → List ℕ → ℕ → ℕ → ℕ → Bool
+matching b x₁ x₂ l₂ i t = eqb (getD x₂ t 0) (getD x₁ i 0) && ltb t l₂ || not (ltb t b)
+
+module _ (b : ℕ) (x₁ : List ℕ) (l₁ : ℕ) (x₂ : List ℕ) (l₂ : ℕ) (h : b ≤ 16) (h₁ : l₁ ≤ b) (h₂ : l₂ ≤ b) where
+  pub ordered-start : (ones : ℕ) → ones ≡ numberOf b (λ j. true) → ones ≡ numberOf b (standingTo b x₁ l₁ x₂ l₂ 0)
+  ordered-start ones o =
+      o
+      ∙ number-same b (λ j. true) (standingTo b x₁ l₁ x₂ l₂ 0) (λ j u. let e : min 0 (b - j) ≡ 0 = omega arith in rw e)
+
+  module _ (i : ℕ) (u : i < l₁) where
+    more : (j : ℕ) → (standingTo b x₁ l₁ x₂ l₂ i j && matching b x₁ x₂ l₂ i (i + j)) ≡ standingTo b x₁ l₁ x₂ l₂ (i + 1) j
+    more j =
+        ⊎-elim
+        (λ (v : i + j < b).
+        let d : min i (b - j) ≡ i = omega arith in
+        let e : min (i + 1) (b - j) ≡ suc i = omega arith in
+        rw (d, e, lt-ltb (i + j) b v, add-comm i j, lt-ltb i l₁ u) (ap (λ (t : Bool). allBelow i (follows x₁ l₁ x₂ l₂ j) && t) (ordered-bit (ltb (j + i) l₂) (eqb (getD x₂ (j + i) 0) (getD x₁ i 0)))))
+        (λ (v : b ≤ i + j).
+        let d : min (i + 1) (b - j) ≡ min i (b - j) = omega arith in
+        rw (d, le-ltb (i + j) b v, or-true, and-true))
+        (below-or (i + j) b)
+
+    -- the places of element i, with every bit from b on set
+    matches : (s v past : ℕ) → s ≡ numberOf b (λ t. eqb (getD x₂ t 0) (getD x₁ i 0)) → v ≡ numberOf 16 (λ t. ltb t l₂) → past ≡ numberOf 32 (λ t. not (ltb t b)) → bitOr (bitAnd s v) past ≡ numberOf 32 (matching b x₁ x₂ l₂ i)
+    matches s v past d e g =
+        let p : bitAnd s v ≡ numberOf 32 (λ t. eqb (getD x₂ t 0) (getD x₁ i 0) && ltb t l₂) =
+            rw (d, first-cut b l₂ v h h₂ e) (number-both b (λ t. eqb (getD x₂ t 0) (getD x₁ i 0)) (λ t. ltb t l₂))
+            ∙ sym (number-cut 32 b (λ t. eqb (getD x₂ t 0) (getD x₁ i 0) && ltb t l₂) (omega arith) (λ t w z. rw (le-ltb t l₂ (omega arith), and-false))) in
+        rw (p, g) (number-or 32 (λ t. eqb (getD x₂ t 0) (getD x₁ i 0) && ltb t l₂) (λ t. not (ltb t b)))
+
+    -- one element of operand 1 more
+    pub ordered-more : (s v past l : ℕ) → s ≡ numberOf b (λ t. eqb (getD x₂ t 0) (getD x₁ i 0)) → v ≡ numberOf 16 (λ t. ltb t l₂) → past ≡ numberOf 32 (λ t. not (ltb t b)) → l ≡ numberOf b (standingTo b x₁ l₁ x₂ l₂ i) → bitAnd l (bitOr (bitAnd s v) past / 2 ^ i) ≡ numberOf b (standingTo b x₁ l₁ x₂ l₂ (i + 1))
+    ordered-more s v past l d e g k =
+        let z : i + (32 - b - i + b) ≡ 32 = omega arith in
+        let m : numberOf 32 (matching b x₁ x₂ l₂ i) / 2 ^ i ≡ numberOf (32 - b - i + b) (λ j. matching b x₁ x₂ l₂ i (i + j)) =
+            subst (λ (n : ℕ). numberOf n (matching b x₁ x₂ l₂ i) / 2 ^ i ≡ numberOf (32 - b - i + b) (λ j. matching b x₁ x₂ l₂ i (i + j))) z (number-shift i (32 - b - i + b) (matching b x₁ x₂ l₂ i)) in
+        rw (k, matches s v past d e g, m)
+        (number-and b (32 - b - i) (standingTo b x₁ l₁ x₂ l₂ i) (λ j. matching b x₁ x₂ l₂ i (i + j))
+        ∙ number-same b _ _ (λ j w. more j))
+
+  pub ordered-end : (i : ℕ) → l₁ ≤ i → numberOf b (standingTo b x₁ l₁ x₂ l₂ i) ≡ numberOf b (orderedOf b x₁ l₁ x₂ l₂)
+  ordered-end i u =
+      number-same b (standingTo b x₁ l₁ x₂ l₂ i) (orderedOf b x₁ l₁ x₂ l₂)
+      (λ j w. sym (all-cut (b - j) (min i (b - j)) (follows x₁ l₁ x₂ l₂ j) (omega arith) (λ t y z. rw (le-ltb t l₁ (omega arith)))))
+
+  -- where the first i stand nowhere, all stand nowhere
+  pub ordered-none : (i l : ℕ) → l ≡ numberOf b (standingTo b x₁ l₁ x₂ l₂ i) → l ≡ 0 → 0 ≡ numberOf b (orderedOf b x₁ l₁ x₂ l₂)
+  ordered-none i l e z =
+      no-bits b
+      ∙ number-same b (λ j. false) (orderedOf b x₁ l₁ x₂ l₂)
+      (λ j w. sym (all-less (follows x₁ l₁ x₂ l₂ j) (min i (b - j)) (b - j) (omega arith) (number-zero b j (standingTo b x₁ l₁ x₂ l₂ i) w (sym e ∙ z))))

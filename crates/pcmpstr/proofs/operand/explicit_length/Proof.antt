@@ -1,0 +1,28 @@
+-- `pcmpstr::operand::explicit_length` meets its contract: b is at most 16, so what was cut to 16 is cut to b. Assumes nothing.
+use borrow.Author.Needs.{needs}
+use mir.Syntax.{w32}
+use mir.ValLaws.{toZ-ofZ}
+use native.Mathlib.Omega.{arith}
+use Rattle.pcmpstr.specs.Operand.{explicitLength}
+use Rattle.pcmpstr.proofs.operand.explicit_length.Statement.{statement}
+use Rattle.pcmpstr.proofs.operand.explicit_length.Tie as tie
+
+magnitude-requires : tie.Need-magnitude-requires
+magnitude-requires c κs = search needs
+
+returns : tie.Need-returns
+unfolding explicitLength
+returns c =
+    omega
+    (arith,
+    rw (toZ-ofZ w32 (c .before .before .args .length) (c .before .before .fits .length)) at (c .before .magnitude .ensures))
+
+returns-2 : tie.Need-returns-2
+unfolding explicitLength
+returns-2 c =
+    omega
+    (arith,
+    rw (toZ-ofZ w32 (c .before .before .args .length) (c .before .before .fits .length)) at (c .before .magnitude .ensures))
+
+pub explicit-length-spec : {M : Type 1} → statement M
+explicit-length-spec = tie.close (tie.spec magnitude-requires returns returns-2)

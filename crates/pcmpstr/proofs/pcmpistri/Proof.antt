@@ -1,0 +1,71 @@
+-- `pcmpstr::pcmpistri` meets its contract, the definition of PCMPISTRI: refused above 127, else what the parts say of the operands, put together.
+-- Assumes nothing.
+use mathlib.Core.Path.{ap, _∙_}
+use Rattle.pcmpstr.specs.declared.Control.{Control}
+use Rattle.pcmpstr.specs.Control.{controlOf}
+use Rattle.pcmpstr.specs.Output.{indexAnswer, refusedIndex}
+use Rattle.pcmpstr.specs.Calls.{implicit, PCMPISTRI}
+use Rattle.pcmpstr.proofs.Unit.{accepted, refuses, index-answered}
+use borrow.Author.Needs.{needs}
+use Rattle.pcmpstr.proofs.pcmpistri.Statement.{statement}
+use Rattle.pcmpstr.proofs.pcmpistri.Tie as tie
+
+refused-requires : tie.Need-refused-requires
+refused-requires c κs = search needs
+
+returns : tie.Need-returns
+unfolding PCMPISTRI
+returns c =
+    let a = c .before .before .args in
+    c .refused .ensures ∙ refuses (indexAnswer (implicit (a .operand1) (a .operand2) (controlOf (a .control)))) refusedIndex (a .control) (c .before .if1 .taken)
+
+decode-requires : tie.Need-decode-requires
+decode-requires c κs = search needs
+
+implicit-requires : tie.Need-implicit-requires
+implicit-requires c κs = search needs
+
+answer-requires : tie.Need-answer-requires
+answer-requires c κs = search needs
+
+returns-2 : tie.Need-returns-2
+unfolding PCMPISTRI
+returns-2 c =
+    let s = c .before .before .before .before .before in
+    let a = s .args in
+    let k = c .before .before .before .decode .result in
+    c .answer .ensures
+    ∙ index-answered (implicit (a .operand1) (a .operand2) k) (c .before .implicit .result) (c .before .implicit .ensures)
+    ∙ ap (λ (k : Control). indexAnswer (implicit (a .operand1) (a .operand2) k)) (c .before .before .before .decode .ensures)
+    ∙ accepted (indexAnswer (implicit (a .operand1) (a .operand2) (controlOf (a .control)))) refusedIndex (a .control) (c .before .before .before .before .if1 .left)
+
+implicit-requires-2 : tie.Need-implicit-requires-2
+implicit-requires-2 c κs = search needs
+
+answer-requires-2 : tie.Need-answer-requires-2
+answer-requires-2 c κs = search needs
+
+returns-3 : tie.Need-returns-3
+unfolding PCMPISTRI
+returns-3 c =
+    let s = c .before .before .before .before .before in
+    let a = s .args in
+    let k = c .before .before .before .decode .result in
+    c .answer2 .ensures
+    ∙ index-answered (implicit (a .operand1) (a .operand2) k) (c .before .implicit2 .result) (c .before .implicit2 .ensures)
+    ∙ ap (λ (k : Control). indexAnswer (implicit (a .operand1) (a .operand2) k)) (c .before .before .before .decode .ensures)
+    ∙ accepted (indexAnswer (implicit (a .operand1) (a .operand2) (controlOf (a .control)))) refusedIndex (a .control) (c .before .before .before .before .if1 .left)
+
+pub pcmpistri-spec : {M : Type 1} → statement M
+pcmpistri-spec =
+    tie.close
+    (tie.spec
+    refused-requires
+    returns
+    decode-requires
+    implicit-requires
+    answer-requires
+    returns-2
+    implicit-requires-2
+    answer-requires-2
+    returns-3)

@@ -1,0 +1,76 @@
+// The answer of the mask calls.
+use crate::CONTROL_REFUSED;
+use crate::Compared;
+use crate::Control;
+use crate::MaskAnswer;
+use crate::status;
+use crate::operand;
+
+ghost use mathlib.Core.Path.{_≡_};
+ghost use mathlib.Core.Bool.{cond};
+ghost use mathlib.Core.List.{_∷_};
+ghost use Prim.Native.Nat.{_/_, _%_, _<_};
+ghost use lib.ListN.{replicate};
+ghost use Rattle.pcmpstr.specs.Operand.{count};
+ghost use Rattle.pcmpstr.specs.Output.{refusedMask};
+ghost use Rattle.pcmpstr.specs.Parts.{elementRead, flagsRead, maskRead};
+
+// The bits in the first two bytes, low byte first.
+fn bit_mask(bits: u32) -> [u8; 16]
+    ensures { λ r. ⌜ r ≡ (bits % 256) ∷ (bits / 256 % 256) ∷ replicate 14 0 ⌝ }
+{
+    let mut mask = [0u8; 16];
+    mask[0] = (bits % 256) as u8;
+    mask[1] = (bits / 256 % 256) as u8;
+    mask
+}
+
+fn filled(bit: bool) -> u8
+    ensures { λ r. ⌜ r ≡ cond bit 255 0 ⌝ }
+{
+    if bit { 255 } else { 0 }
+}
+
+// The element that byte i belongs to.
+fn element_of(words: bool, i: u32) -> u32
+    requires { ⌜ i < 16 ⌝ }
+    ensures { λ r. ⌜ (r ≡ cond words (i / 2) i) × (r < 16) ⌝ }
+{
+    if words { i / 2 } else { i }
+}
+
+// Each bit fills its element.
+fn element_mask(words: bool, bits: u32) -> [u8; 16]
+    ensures { λ r. ⌜ r ≡ elementRead words bits ⌝ }
+{
+    let mut mask = [0u8; 16];
+    let mut i = 0;
+    while i < 16 {
+        let j = element_of(words, i as u32);
+        mask[i] = filled((bits >> j) % 2 == 1);
+        i += 1;
+    }
+    mask
+}
+
+fn mask_of(high: bool, words: bool, bits: u32) -> [u8; 16]
+    ensures { λ r. ⌜ r ≡ maskRead high words bits ⌝ }
+{
+    if high { element_mask(words, bits) } else { bit_mask(bits) }
+}
+
+pub fn answer(k: Control, t: Compared) -> MaskAnswer
+    ensures { λ r. ⌜ r ≡ record { refusal = 0; mask = maskRead (k .high) (k .words) (t .bits); flags = flagsRead (count (k .words)) t } ⌝ }
+{
+    let b = operand::count_of(k.words);
+    let mask = mask_of(k.high, k.words, t.bits);
+    let flags = status::flags_of(b, t);
+    MaskAnswer { refusal: 0, mask: mask, flags: flags }
+}
+
+pub fn refused() -> MaskAnswer
+    ensures { λ r. ⌜ r ≡ refusedMask ⌝ }
+{
+    let flags = status::none();
+    MaskAnswer { refusal: CONTROL_REFUSED, mask: [0u8; 16], flags: flags }
+}
