@@ -218,7 +218,7 @@ greatest-by-test b n p true h e q = sym (greatest-none b p b (sym e ∙ eqb-true
 greatest-by-test b n p false h e q =
     let z : 0 < n = omega (arith, eqb-false n 0 q) in
     let g : leadingZeros 32 n + suc (greatestBelow b p b) ≡ 32 =
-        rw (← e) at (number-greatest 32 b p b h (rw (← e) z)) in
+    rw (← e) at (number-greatest 32 b p b h (rw (← e) z)) in
     let r : 31 - leadingZeros 32 n ≡ greatestBelow b p b = omega arith in
     r
 

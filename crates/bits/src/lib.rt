@@ -53,7 +53,12 @@ fn alike_high(x: &[u8; 16], y: &[u8; 16]) -> u16
 {
     eight(
         four(x[8] == y[8], x[9] == y[9], x[10] == y[10], x[11] == y[11]),
-        four(x[12] == y[12], x[13] == y[13], x[14] == y[14], x[15] == y[15]),
+        four(
+            x[12] == y[12],
+            x[13] == y[13],
+            x[14] == y[14],
+            x[15] == y[15],
+        ),
     )
 }
 
@@ -98,19 +103,31 @@ pub fn same_words(x: &[u16; 8], y: u16) -> u32
 pub fn first(n: usize) -> u32
     ensures { λ r. ⌜ r ≡ numberOf 16 (λ j. ltb j n) ⌝ }
 {
-    if n < 16 { (1u32 << (n as u32)) - 1 } else { 65535 }
+    if n < 16 {
+        (1u32 << (n as u32)) - 1
+    } else {
+        65535
+    }
 }
 
 // The least set bit of a number, or none.
 pub fn least(number: u32, none: u32) -> u32
     ensures { λ r. ⌜ r ≡ cond (eqb number 0) none (trailingZeros 32 number) ⌝ }
 {
-    if number == 0 { none } else { u32::trailing_zeros(number) }
+    if number == 0 {
+        none
+    } else {
+        u32::trailing_zeros(number)
+    }
 }
 
 // The greatest set bit of a number, or none.
 pub fn greatest(number: u32, none: u32) -> u32
     ensures { λ r. ⌜ r ≡ cond (eqb number 0) none (31 - leadingZeros 32 number) ⌝ }
 {
-    if number == 0 { none } else { 31 - u32::leading_zeros(number) }
+    if number == 0 {
+        none
+    } else {
+        31 - u32::leading_zeros(number)
+    }
 }

@@ -107,7 +107,7 @@ module _ (b v : ℕ) (value : ℕ → ℤ) (x₁ x₂ : List ℕ) where
       (number-same b _ (rangesOf value x₁ n x₂ l₂)
       (λ j y.
       let m : eqb (getD row j 0) v ≡ inRange value x₁ n (getD x₂ j 0) =
-          rw (d, getD-tabulate b j (λ i. cond (inRange value x₁ n (getD x₂ i 0)) v 0) 0 y) (marked (inRange value x₁ n (getD x₂ j 0)) z) in
+      rw (d, getD-tabulate b j (λ i. cond (inRange value x₁ n (getD x₂ i 0)) v 0) 0 y) (marked (inRange value x₁ n (getD x₂ j 0)) z) in
       ap (λ (t : Bool). t && ltb j l₂) m))
 
 -- ---- equal each
@@ -175,8 +175,8 @@ module _ (b : ℕ) (x₁ : List ℕ) (l₁ : ℕ) (x₂ : List ℕ) (l₂ : ℕ)
     matches : (s v past : ℕ) → s ≡ numberOf b (λ t. eqb (getD x₂ t 0) (getD x₁ i 0)) → v ≡ numberOf 16 (λ t. ltb t l₂) → past ≡ numberOf 32 (λ t. not (ltb t b)) → bitOr (bitAnd s v) past ≡ numberOf 32 (matching b x₁ x₂ l₂ i)
     matches s v past d e g =
         let p : bitAnd s v ≡ numberOf 32 (λ t. eqb (getD x₂ t 0) (getD x₁ i 0) && ltb t l₂) =
-            rw (d, first-cut b l₂ v h h₂ e) (number-both b (λ t. eqb (getD x₂ t 0) (getD x₁ i 0)) (λ t. ltb t l₂))
-            ∙ sym (number-cut 32 b (λ t. eqb (getD x₂ t 0) (getD x₁ i 0) && ltb t l₂) (omega arith) (λ t w z. rw (le-ltb t l₂ (omega arith), and-false))) in
+        rw (d, first-cut b l₂ v h h₂ e) (number-both b (λ t. eqb (getD x₂ t 0) (getD x₁ i 0)) (λ t. ltb t l₂))
+        ∙ sym (number-cut 32 b (λ t. eqb (getD x₂ t 0) (getD x₁ i 0) && ltb t l₂) (omega arith) (λ t w z. rw (le-ltb t l₂ (omega arith), and-false))) in
         rw (p, g) (number-or 32 (λ t. eqb (getD x₂ t 0) (getD x₁ i 0) && ltb t l₂) (λ t. not (ltb t b)))
 
     -- one element of operand 1 more
@@ -184,7 +184,7 @@ module _ (b : ℕ) (x₁ : List ℕ) (l₁ : ℕ) (x₂ : List ℕ) (l₂ : ℕ)
     ordered-more s v past l d e g k =
         let z : i + (32 - b - i + b) ≡ 32 = omega arith in
         let m : numberOf 32 (matching b x₁ x₂ l₂ i) / 2 ^ i ≡ numberOf (32 - b - i + b) (λ j. matching b x₁ x₂ l₂ i (i + j)) =
-            subst (λ (n : ℕ). numberOf n (matching b x₁ x₂ l₂ i) / 2 ^ i ≡ numberOf (32 - b - i + b) (λ j. matching b x₁ x₂ l₂ i (i + j))) z (number-shift i (32 - b - i + b) (matching b x₁ x₂ l₂ i)) in
+        subst (λ (n : ℕ). numberOf n (matching b x₁ x₂ l₂ i) / 2 ^ i ≡ numberOf (32 - b - i + b) (λ j. matching b x₁ x₂ l₂ i (i + j))) z (number-shift i (32 - b - i + b) (matching b x₁ x₂ l₂ i)) in
         rw (k, matches s v past d e g, m)
         (number-and b (32 - b - i) (standingTo b x₁ l₁ x₂ l₂ i) (λ j. matching b x₁ x₂ l₂ i (i + j))
         ∙ number-same b _ _ (λ j w. more j))

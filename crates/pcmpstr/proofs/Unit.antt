@@ -142,9 +142,9 @@ unfolding intRes2
 compared-is k w x₁ l₁ x₂ l₂ g t e d f =
     let o = operands k x₁ l₁ x₂ l₂ in
     let n : bitXor g t ≡ numberOf (count w) (intRes2 o) =
-        rw (d, f)
-        (number-xor (count w) (intRes1 o) (λ j. withPolarity (k .polarity) (ltb j l₂) false)
-        ∙ number-same (count w) _ (intRes2 o) (λ j u. polarity-bit (k .polarity) (ltb j l₂) (intRes1 o j))) in
+    rw (d, f)
+    (number-xor (count w) (intRes1 o) (λ j. withPolarity (k .polarity) (ltb j l₂) false)
+    ∙ number-same (count w) _ (intRes2 o) (λ j u. polarity-bit (k .polarity) (ltb j l₂) (intRes1 o j))) in
     let m : bitXor g t ≡ numberOf (count (k .words)) (intRes2 o) = n ∙ ap (λ (v : Bool). numberOf (count v) (intRes2 o)) (sym e) in
     λ i. record { bits = m i; length1 = l₁; length2 = l₂ }
 
@@ -186,7 +186,7 @@ module _ (o : Operands) where
   unfolding flagsOf
   flags-read =
       let c : not (eqb (numberOf b (intRes2 o)) 0) ≡ anyBelow b (intRes2 o) =
-          ap not (number-none b (intRes2 o)) ∙ not-not (anyBelow b (intRes2 o)) in
+      ap not (number-none b (intRes2 o)) ∙ not-not (anyBelow b (intRes2 o)) in
       let f : eqb (numberOf b (intRes2 o) % 2) 1 ≡ intRes2 o 0 = odd-bit b (intRes2 o) (count-some (o .control .words)) in
       λ t.
       record { carry = c t; zero = ltb (o .length₂) b; sign = ltb (o .length₁) b; overflow = f t; auxiliary = false; parity = false }
@@ -196,8 +196,8 @@ module _ (o : Operands) where
   mask-read =
       let w = o .control .words in
       let e : elementRead w (numberOf b (intRes2 o)) ≡ tabulate 16 (λ i. cond (intRes2 o (cond w (i / 2) i)) 255 0) =
-          tabulate-same 16 _ (λ i. cond (intRes2 o (cond w (i / 2) i)) 255 0)
-          (λ i u. ap (λ (t : Bool). cond t 255 0) (ap (λ (n : ℕ). eqb n 1) (number-bit b (cond w (i / 2) i) (intRes2 o) (element-below w i u)) ∙ bit-set (intRes2 o (cond w (i / 2) i)))) in
+      tabulate-same 16 _ (λ i. cond (intRes2 o (cond w (i / 2) i)) 255 0)
+      (λ i u. ap (λ (t : Bool). cond t 255 0) (ap (λ (n : ℕ). eqb n 1) (number-bit b (cond w (i / 2) i) (intRes2 o) (element-below w i u)) ∙ bit-set (intRes2 o (cond w (i / 2) i)))) in
       λ t.
       cond (o .control .high) (e t) ((numberOf b (intRes2 o) % 256) ∷ (numberOf b (intRes2 o) / 256 % 256) ∷ replicate 14 0)
 

@@ -2,9 +2,8 @@
 use crate::Aggregation;
 use crate::Compared;
 use crate::Control;
-use crate::operand;
 use crate::negation;
-
+use crate::operand;
 ghost use mathlib.Core.Path.{_≡_};
 ghost use mathlib.Core.Bool.{cond, false, _&&_};
 ghost use Prim.Native.Nat.{_≤_};
@@ -56,11 +55,7 @@ fn value(signed: bool, x: u8) -> i16
 fn mark(low: bool, high: bool) -> u8
     ensures { λ r. ⌜ r ≡ cond (low && high) 255 0 ⌝ }
 {
-    if low {
-        if high { 255 } else { 0 }
-    } else {
-        0
-    }
+    if low { if high { 255 } else { 0 } } else { 0 }
 }
 
 // The row with 255 set too where an element of x lies from low to high.
@@ -142,11 +137,21 @@ fn compared(k: Control, x1: &[u8; 16], l1: usize, x2: &[u8; 16], l2: usize) -> C
 {
     let p = k.polarity;
     let n = aggregated(k, x1, l1, x2, l2) ^ negation::negated(p, 16, l2);
-    Compared { bits: n, length1: l1, length2: l2 }
+    Compared {
+        bits: n,
+        length1: l1,
+        length2: l2,
+    }
 }
 
 // What an explicit call compares.
-pub fn explicit(operand1: [u8; 16], length1: i32, operand2: [u8; 16], length2: i32, k: Control) -> Compared
+pub fn explicit(
+    operand1: [u8; 16],
+    length1: i32,
+    operand2: [u8; 16],
+    length2: i32,
+    k: Control,
+) -> Compared
     requires { ⌜ k .words ≡ false ⌝ }
     ensures { λ r. ⌜ r ≡ comparedOf (explicit operand1 length1 operand2 length2 k) ⌝ }
 {

@@ -2,7 +2,6 @@
 use crate::Aggregation;
 use crate::Control;
 use crate::Polarity;
-
 ghost use mathlib.Core.Path.{_≡_};
 ghost use Prim.Native.Nat.{_<_};
 ghost use Rattle.pcmpstr.specs.Control.{aggregationOf, polarityOf, controlOf};

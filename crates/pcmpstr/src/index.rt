@@ -3,9 +3,8 @@ use crate::CONTROL_REFUSED;
 use crate::Compared;
 use crate::Control;
 use crate::IndexAnswer;
-use crate::status;
 use crate::operand;
-
+use crate::status;
 ghost use mathlib.Core.Path.{_≡_};
 ghost use Prim.Native.Nat.{_≤_};
 ghost use Rattle.pcmpstr.specs.Operand.{count};
@@ -17,7 +16,11 @@ fn index_of(high: bool, b: usize, bits: u32) -> u32
     requires { ⌜ b ≤ 16 ⌝ }
     ensures { λ r. ⌜ r ≡ indexRead high b bits ⌝ }
 {
-    if high { bits::greatest(bits, b as u32) } else { bits::least(bits, b as u32) }
+    if high {
+        bits::greatest(bits, b as u32)
+    } else {
+        bits::least(bits, b as u32)
+    }
 }
 
 pub fn answer(k: Control, t: Compared) -> IndexAnswer
@@ -26,12 +29,20 @@ pub fn answer(k: Control, t: Compared) -> IndexAnswer
     let b = operand::count_of(k.words);
     let index = index_of(k.high, b, t.bits);
     let flags = status::flags_of(b, t);
-    IndexAnswer { refusal: 0, index: index, flags: flags }
+    IndexAnswer {
+        refusal: 0,
+        index: index,
+        flags: flags,
+    }
 }
 
 pub fn refused() -> IndexAnswer
     ensures { λ r. ⌜ r ≡ refusedIndex ⌝ }
 {
     let flags = status::none();
-    IndexAnswer { refusal: CONTROL_REFUSED, index: 0, flags: flags }
+    IndexAnswer {
+        refusal: CONTROL_REFUSED,
+        index: 0,
+        flags: flags,
+    }
 }

@@ -4,19 +4,22 @@
 // Public calls: `pcmpestri`, `pcmpestrm`, `pcmpistri`, `pcmpistrm`, with the arguments of Intel's intrinsics in their order; and for
 // searches `pcmpestri_0c`, `pcmpestri_0d`, `pcmpestri_18`, `pcmpestri_19`, the index of `pcmpestri` at that control.
 // Data flows through the modules in this order: fields, operand, bytes or words, negation, status, then index or mask.
-mod fields;
-mod operand;
-mod negation;
 mod bytes;
-mod words;
-mod status;
+mod fields;
 mod index;
 mod mask;
+mod negation;
+mod operand;
+mod status;
+mod words;
 
 ghost use mathlib.Core.Path.{_≡_};
 ghost use Rattle.pcmpstr.specs.Calls.{PCMPESTRI, PCMPESTRM, PCMPISTRI, PCMPISTRM};
 
-// Refusal number 1: the control is above 127. Number 0 stands for an accepted call.
+// The greatest control with a defined meaning: bit 7 of imm8 should be zero.
+const GREATEST_CONTROL: u8 = 127;
+
+// Refusal number 1: the control is above that. Number 0 stands for an accepted call.
 pub const CONTROL_REFUSED: u32 = 1;
 
 // How the comparisons of single elements are aggregated into IntRes1: control bits 3:2.
@@ -76,10 +79,16 @@ pub struct Compared {
 }
 
 // Packed compare of strings of explicit length, the answer an index.
-pub fn pcmpestri(operand1: [u8; 16], length1: i32, operand2: [u8; 16], length2: i32, control: u8) -> IndexAnswer
+pub fn pcmpestri(
+    operand1: [u8; 16],
+    length1: i32,
+    operand2: [u8; 16],
+    length2: i32,
+    control: u8,
+) -> IndexAnswer
     ensures { λ r. ⌜ r ≡ PCMPESTRI operand1 length1 operand2 length2 control ⌝ }
 {
-    if control > 127 {
+    if control > GREATEST_CONTROL {
         return index::refused();
     }
     let k = fields::decode(control);
@@ -90,10 +99,16 @@ pub fn pcmpestri(operand1: [u8; 16], length1: i32, operand2: [u8; 16], length2: 
 }
 
 // Packed compare of strings of explicit length, the answer a mask.
-pub fn pcmpestrm(operand1: [u8; 16], length1: i32, operand2: [u8; 16], length2: i32, control: u8) -> MaskAnswer
+pub fn pcmpestrm(
+    operand1: [u8; 16],
+    length1: i32,
+    operand2: [u8; 16],
+    length2: i32,
+    control: u8,
+) -> MaskAnswer
     ensures { λ r. ⌜ r ≡ PCMPESTRM operand1 length1 operand2 length2 control ⌝ }
 {
-    if control > 127 {
+    if control > GREATEST_CONTROL {
         return mask::refused();
     }
     let k = fields::decode(control);
@@ -107,7 +122,7 @@ pub fn pcmpestrm(operand1: [u8; 16], length1: i32, operand2: [u8; 16], length2: 
 pub fn pcmpistri(operand1: [u8; 16], operand2: [u8; 16], control: u8) -> IndexAnswer
     ensures { λ r. ⌜ r ≡ PCMPISTRI operand1 operand2 control ⌝ }
 {
-    if control > 127 {
+    if control > GREATEST_CONTROL {
         return index::refused();
     }
     let k = fields::decode(control);
@@ -121,7 +136,7 @@ pub fn pcmpistri(operand1: [u8; 16], operand2: [u8; 16], control: u8) -> IndexAn
 pub fn pcmpistrm(operand1: [u8; 16], operand2: [u8; 16], control: u8) -> MaskAnswer
     ensures { λ r. ⌜ r ≡ PCMPISTRM operand1 operand2 control ⌝ }
 {
-    if control > 127 {
+    if control > GREATEST_CONTROL {
         return mask::refused();
     }
     let k = fields::decode(control);

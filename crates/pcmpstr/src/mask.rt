@@ -3,9 +3,8 @@ use crate::CONTROL_REFUSED;
 use crate::Compared;
 use crate::Control;
 use crate::MaskAnswer;
-use crate::status;
 use crate::operand;
-
+use crate::status;
 ghost use mathlib.Core.Path.{_≡_};
 ghost use mathlib.Core.Bool.{cond};
 ghost use mathlib.Core.List.{_∷_};
@@ -56,7 +55,11 @@ fn element_mask(words: bool, bits: u32) -> [u8; 16]
 fn mask_of(high: bool, words: bool, bits: u32) -> [u8; 16]
     ensures { λ r. ⌜ r ≡ maskRead high words bits ⌝ }
 {
-    if high { element_mask(words, bits) } else { bit_mask(bits) }
+    if high {
+        element_mask(words, bits)
+    } else {
+        bit_mask(bits)
+    }
 }
 
 pub fn answer(k: Control, t: Compared) -> MaskAnswer
@@ -65,12 +68,20 @@ pub fn answer(k: Control, t: Compared) -> MaskAnswer
     let b = operand::count_of(k.words);
     let mask = mask_of(k.high, k.words, t.bits);
     let flags = status::flags_of(b, t);
-    MaskAnswer { refusal: 0, mask: mask, flags: flags }
+    MaskAnswer {
+        refusal: 0,
+        mask: mask,
+        flags: flags,
+    }
 }
 
 pub fn refused() -> MaskAnswer
     ensures { λ r. ⌜ r ≡ refusedMask ⌝ }
 {
     let flags = status::none();
-    MaskAnswer { refusal: CONTROL_REFUSED, mask: [0u8; 16], flags: flags }
+    MaskAnswer {
+        refusal: CONTROL_REFUSED,
+        mask: [0u8; 16],
+        flags: flags,
+    }
 }

@@ -1,6 +1,5 @@
 // Polarity: which bits of IntRes1 are negated.
 use crate::Polarity;
-
 ghost use mathlib.Core.Path.{_≡_};
 ghost use mathlib.Core.Bool.{false};
 ghost use Prim.Native.Nat.{_≤_};

@@ -1,7 +1,6 @@
 // The flags, from IntRes2 and the effective lengths.
 use crate::Compared;
 use crate::Flags;
-
 ghost use mathlib.Core.Path.{_≡_};
 ghost use Rattle.pcmpstr.specs.Output.{noFlags};
 ghost use Rattle.pcmpstr.specs.Parts.{flagsRead};
@@ -23,5 +22,12 @@ pub fn flags_of(b: usize, t: Compared) -> Flags
 pub fn none() -> Flags
     ensures { λ r. ⌜ r ≡ noFlags ⌝ }
 {
-    Flags { carry: false, zero: false, sign: false, overflow: false, auxiliary: false, parity: false }
+    Flags {
+        carry: false,
+        zero: false,
+        sign: false,
+        overflow: false,
+        auxiliary: false,
+        parity: false,
+    }
 }

@@ -2,9 +2,8 @@
 use crate::Aggregation;
 use crate::Compared;
 use crate::Control;
-use crate::operand;
 use crate::negation;
-
+use crate::operand;
 ghost use mathlib.Core.Path.{_≡_};
 ghost use mathlib.Core.Bool.{cond, true, _&&_};
 ghost use Prim.Native.Nat.{_≤_};
@@ -47,7 +46,11 @@ fn value(signed: bool, x: u16) -> i32
     ensures { λ r. ⌜ r ≡ valueOf true signed x ⌝ }
 {
     if signed {
-        if x < 32768 { x as i32 } else { (x as i32) - 65536 }
+        if x < 32768 {
+            x as i32
+        } else {
+            (x as i32) - 65536
+        }
     } else {
         x as i32
     }
@@ -56,11 +59,7 @@ fn value(signed: bool, x: u16) -> i32
 fn mark(low: bool, high: bool) -> u16
     ensures { λ r. ⌜ r ≡ cond (low && high) 65535 0 ⌝ }
 {
-    if low {
-        if high { 65535 } else { 0 }
-    } else {
-        0
-    }
+    if low { if high { 65535 } else { 0 } } else { 0 }
 }
 
 // The row with 65535 set too where an element of x lies from low to high.
@@ -142,11 +141,21 @@ fn compared(k: Control, x1: &[u16; 8], l1: usize, x2: &[u16; 8], l2: usize) -> C
 {
     let p = k.polarity;
     let n = aggregated(k, x1, l1, x2, l2) ^ negation::negated(p, 8, l2);
-    Compared { bits: n, length1: l1, length2: l2 }
+    Compared {
+        bits: n,
+        length1: l1,
+        length2: l2,
+    }
 }
 
 // What an explicit call compares.
-pub fn explicit(operand1: [u8; 16], length1: i32, operand2: [u8; 16], length2: i32, k: Control) -> Compared
+pub fn explicit(
+    operand1: [u8; 16],
+    length1: i32,
+    operand2: [u8; 16],
+    length2: i32,
+    k: Control,
+) -> Compared
     requires { ⌜ k .words ≡ true ⌝ }
     ensures { λ r. ⌜ r ≡ comparedOf (explicit operand1 length1 operand2 length2 k) ⌝ }
 {

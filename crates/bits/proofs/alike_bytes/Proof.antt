@@ -21,12 +21,13 @@ sixteen-requires c κs = search needs
 returns : tie.Need-returns
 returns c =
     let a = c .before .before .before .args in
-    omega
-    (arith,
-    c .sixteen .ensures,
-    c .before .before .alike-low .ensures .0,
-    c .before .alike-high .ensures .0,
-    number-sixteen (λ j. eqb (getD (a .x .now) j 0) (getD (a .y .now) j 0)))
+    omega (
+      arith,
+      c .sixteen .ensures,
+      c .before .before .alike-low .ensures .0,
+      c .before .alike-high .ensures .0,
+      number-sixteen (λ j. eqb (getD (a .x .now) j 0) (getD (a .y .now) j 0)),
+    )
 
 pub alike-bytes-spec : {M : Type 1} → statement M
 alike-bytes-spec =

@@ -13,16 +13,18 @@ magnitude-requires c κs = search needs
 returns : tie.Need-returns
 unfolding explicitLength
 returns c =
-    omega
-    (arith,
-    rw (toZ-ofZ w32 (c .before .before .args .length) (c .before .before .fits .length)) at (c .before .magnitude .ensures))
+    omega (
+      arith,
+      rw (toZ-ofZ w32 (c .before .before .args .length) (c .before .before .fits .length)) at (c .before .magnitude .ensures),
+    )
 
 returns-2 : tie.Need-returns-2
 unfolding explicitLength
 returns-2 c =
-    omega
-    (arith,
-    rw (toZ-ofZ w32 (c .before .before .args .length) (c .before .before .fits .length)) at (c .before .magnitude .ensures))
+    omega (
+      arith,
+      rw (toZ-ofZ w32 (c .before .before .args .length) (c .before .before .fits .length)) at (c .before .magnitude .ensures),
+    )
 
 pub explicit-length-spec : {M : Type 1} → statement M
 explicit-length-spec = tie.close (tie.spec magnitude-requires returns returns-2)

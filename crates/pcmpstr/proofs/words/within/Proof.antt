@@ -69,7 +69,7 @@ loop-again c =
     let w = l .before .value2 in
     let y = c .before .value3 in
     let m : c .mark .result ≡ cond (between (valueOf true (s .args .signed)) (s .args .low) (s .args .high) (getD (s .args .t2) (l .loop .j) 0)) 65535 0 =
-        rw (toZ-ofZ w32 (v .result) (record { sfits = v .ok }), toZ-ofZ w32 (w .result) (record { sfits = w .ok }), toZ-ofZ w32 (y .result) (record { sfits = y .ok }), v .ensures, w .ensures, y .ensures) at (c .mark .ensures) in
+    rw (toZ-ofZ w32 (v .result) (record { sfits = v .ok }), toZ-ofZ w32 (w .result) (record { sfits = w .ok }), toZ-ofZ w32 (y .result) (record { sfits = y .ok }), v .ensures, w .ensures, y .ensures) at (c .mark .ensures) in
     (omega arith, search needs, fill (l .loop .a) (l .loop .j) (λ n. bitOr (getD (s .args .t5) n 0) (cond (between (valueOf true (s .args .signed)) (s .args .low) (s .args .high) (getD (s .args .t2) n 0)) 65535 0)) _ (omega arith) (l .loop .inv .2) (ap (bitOr (getD (s .args .t5) (l .loop .j) 0)) m))
 
 returns : tie.Need-returns Inv-loop μ-loop
