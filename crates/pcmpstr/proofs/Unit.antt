@@ -28,7 +28,7 @@ use Rattle.pcmpstr.specs.Control.{controlOf}
 use Rattle.pcmpstr.specs.Operand.{count, valueOf, elements, explicitLength, implicitLength, wordAt, wordsOf}
 use Rattle.pcmpstr.specs.Calls.{explicit, implicit, PCMPESTRI}
 use Rattle.pcmpstr.specs.Compare.{Operands, operands, override, compared, withPolarity, boolRes, intRes1, intRes2}
-use Rattle.pcmpstr.specs.Output.{indexOf, bitMask, elementMask, maskOf, flagsOf, indexAnswer, maskAnswer}
+use Rattle.pcmpstr.specs.Output.{indexOf, bitMask, elementMask, maskOf, flagsOf, indexAnswer, maskAnswer, refusedIndex, refusedMask}
 use Rattle.pcmpstr.specs.Parts.{anyOf, between, rangesOf, eachOf, orderedOf, comparedOf, flagsRead, indexRead, elementRead, maskRead}
 use Rattle.pcmpstr.proofs.Modes.{first-cut}
 
@@ -201,12 +201,12 @@ module _ (o : Operands) where
       λ t.
       cond (o .control .high) (e t) ((numberOf b (intRes2 o) % 256) ∷ (numberOf b (intRes2 o) / 256 % 256) ∷ replicate 14 0)
 
-pub index-answered : (o : Operands) (t : Compared) → t ≡ comparedOf o → _≡_ {A = IndexAnswer} (record { refusal = 0; index = indexRead (o .control .high) (count (o .control .words)) (t .bits); flags = flagsRead (count (o .control .words)) t }) (indexAnswer o)
+index-answered : (o : Operands) (t : Compared) → t ≡ comparedOf o → _≡_ {A = IndexAnswer} (record { refusal = 0; index = indexRead (o .control .high) (count (o .control .words)) (t .bits); flags = flagsRead (count (o .control .words)) t }) (indexAnswer o)
 index-answered o t e =
     (λ i. record { refusal = 0; index = indexRead (o .control .high) (count (o .control .words)) (e i .bits); flags = flagsRead (count (o .control .words)) (e i) })
     ∙ (λ i. record { refusal = 0; index = index-read o i; flags = flags-read o i })
 
-pub mask-answered : (o : Operands) (t : Compared) → t ≡ comparedOf o → _≡_ {A = MaskAnswer} (record { refusal = 0; mask = maskRead (o .control .high) (o .control .words) (t .bits); flags = flagsRead (count (o .control .words)) t }) (maskAnswer o)
+mask-answered : (o : Operands) (t : Compared) → t ≡ comparedOf o → _≡_ {A = MaskAnswer} (record { refusal = 0; mask = maskRead (o .control .high) (o .control .words) (t .bits); flags = flagsRead (count (o .control .words)) t }) (maskAnswer o)
 mask-answered o t e =
     (λ i. record { refusal = 0; mask = maskRead (o .control .high) (o .control .words) (e i .bits); flags = flagsRead (count (o .control .words)) (e i) })
     ∙ (λ i. record { refusal = 0; mask = mask-read o i; flags = flags-read o i })
@@ -227,11 +227,29 @@ unfolding leastBelow
 least-implicit [] = refl
 least-implicit (y ∷ ys) = rw (least-implicit ys)
 
-pub accepted : {X : Type 0} (a b : X) (c : ℕ) → c ≤ 127 → a ≡ cond (ltb c 128) a b
+accepted : {X : Type 0} (a b : X) (c : ℕ) → c ≤ 127 → a ≡ cond (ltb c 128) a b
 accepted a b c h = rw (lt-ltb c 128 (omega arith))
 
-pub refuses : {X : Type 0} (a b : X) (c : ℕ) → 127 < c → b ≡ cond (ltb c 128) a b
-refuses a b c h = rw (le-ltb c 128 (omega arith))
+pub refused : {X : Type 0} (a b : X) (c : ℕ) → 127 < c → b ≡ cond (ltb c 128) a b
+refused a b c h = rw (le-ltb c 128 (omega arith))
+
+-- what an accepted call answers, f giving the operands for a control
+module _ (f : Control → Operands) (c : ℕ) (k : Control) (t : Compared) (kept : f k .control ≡ k) (h : c ≤ 127) (d : k ≡ controlOf c) (e : t ≡ comparedOf (f k)) where
+  pub index-called : (r : IndexAnswer) → r ≡ record { refusal = 0; index = indexRead (k .high) (count (k .words)) (t .bits); flags = flagsRead (count (k .words)) t } → r ≡ cond (ltb c 128) (indexAnswer (f (controlOf c))) refusedIndex
+  index-called r q =
+      q
+      ∙ ap (λ (j : Control). record { refusal = 0; index = indexRead (j .high) (count (j .words)) (t .bits); flags = flagsRead (count (j .words)) t }) (sym kept)
+      ∙ index-answered (f k) t e
+      ∙ ap (λ (j : Control). indexAnswer (f j)) d
+      ∙ accepted (indexAnswer (f (controlOf c))) refusedIndex c h
+
+  pub mask-called : (r : MaskAnswer) → r ≡ record { refusal = 0; mask = maskRead (k .high) (k .words) (t .bits); flags = flagsRead (count (k .words)) t } → r ≡ cond (ltb c 128) (maskAnswer (f (controlOf c))) refusedMask
+  mask-called r q =
+      q
+      ∙ ap (λ (j : Control). record { refusal = 0; mask = maskRead (j .high) (j .words) (t .bits); flags = flagsRead (count (j .words)) t }) (sym kept)
+      ∙ mask-answered (f k) t e
+      ∙ ap (λ (j : Control). maskAnswer (f j)) d
+      ∙ accepted (maskAnswer (f (controlOf c))) refusedMask c h
 
 -- ---- the index at a fixed control: 0Ch and 0Dh, equal ordered; 18h and 19h, equal each negated
 

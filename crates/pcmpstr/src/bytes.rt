@@ -20,7 +20,14 @@ ghost use Rattle.pcmpstr.specs.Parts.{anyOf, between, comparedOf, eachOf
 fn implicit_length(x: &[u8; 16]) -> usize
     ensures { λ r. ⌜ r ≡ leastBelow 16 (λ j. eqb (getD (now (x .entry)) j 0) 0) ⌝ }
 {
-    bits::least(bits::same_bytes(x, 0), 16) as usize
+    let mut i = 0;
+    while i < 16 {
+        if x[i] == 0 {
+            return i;
+        }
+        i += 1;
+    }
+    i
 }
 
 // Bit j: x2[j] is valid and equals a valid element of x1. It stops once every valid element of x2 has been found.

@@ -6,9 +6,9 @@ use crate::MaskAnswer;
 use crate::operand;
 use crate::status;
 ghost use mathlib.Core.Path.{_≡_};
-ghost use mathlib.Core.Bool.{cond};
+ghost use mathlib.Core.Bool.{cond, false, true};
 ghost use mathlib.Core.List.{_∷_};
-ghost use Prim.Native.Nat.{_/_, _%_, _<_};
+ghost use Prim.Native.Nat.{_/_, _%_};
 ghost use lib.ListN.{replicate};
 ghost use Rattle.pcmpstr.specs.Operand.{count};
 ghost use Rattle.pcmpstr.specs.Output.{refusedMask};
@@ -30,23 +30,27 @@ fn filled(bit: bool) -> u8
     if bit { 255 } else { 0 }
 }
 
-// The element that byte i belongs to.
-fn element_of(words: bool, i: u32) -> u32
-    requires { ⌜ i < 16 ⌝ }
-    ensures { λ r. ⌜ (r ≡ cond words (i / 2) i) × (r < 16) ⌝ }
-{
-    if words { i / 2 } else { i }
-}
-
-// Each bit fills its element.
-fn element_mask(words: bool, bits: u32) -> [u8; 16]
-    ensures { λ r. ⌜ r ≡ elementRead words bits ⌝ }
+// Each bit fills its byte.
+fn byte_mask(bits: u32) -> [u8; 16]
+    ensures { λ r. ⌜ r ≡ elementRead false bits ⌝ }
 {
     let mut mask = [0u8; 16];
     let mut i = 0;
     while i < 16 {
-        let j = element_of(words, i as u32);
-        mask[i] = filled((bits >> j) % 2 == 1);
+        mask[i] = filled((bits >> (i as u32)) % 2 == 1);
+        i += 1;
+    }
+    mask
+}
+
+// Each bit fills the two bytes of its word.
+fn word_mask(bits: u32) -> [u8; 16]
+    ensures { λ r. ⌜ r ≡ elementRead true bits ⌝ }
+{
+    let mut mask = [0u8; 16];
+    let mut i = 0;
+    while i < 16 {
+        mask[i] = filled((bits >> ((i / 2) as u32)) % 2 == 1);
         i += 1;
     }
     mask
@@ -56,7 +60,11 @@ fn mask_of(high: bool, words: bool, bits: u32) -> [u8; 16]
     ensures { λ r. ⌜ r ≡ maskRead high words bits ⌝ }
 {
     if high {
-        element_mask(words, bits)
+        if words {
+            word_mask(bits)
+        } else {
+            byte_mask(bits)
+        }
     } else {
         bit_mask(bits)
     }

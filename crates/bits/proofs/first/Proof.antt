@@ -15,13 +15,13 @@ shl-result : tie.Need-shl-result
 shl-result c = search needs
 
 sub-result : tie.Need-sub-result
-sub-result c = omega (arith, shifted-one (c .before .args .n) (c .if1 .taken), pow-pos (c .before .args .n))
+sub-result c = omega (arith, shifted-one (c .before .args .n) (omega arith), pow-pos (c .before .args .n))
 
 returns : tie.Need-returns
-returns c = omega (arith, shifted-one (c .before .args .n) (c .if1 .taken), number-first 16 (c .before .args .n) (omega arith))
+returns c = omega (arith, shifted-one (c .before .args .n) (omega arith), number-first 16 (c .before .args .n) (omega arith))
 
 returns-2 : tie.Need-returns-2
-returns-2 c = sixteen-ones ∙ sym (every-bit 16 (c .before .args .n) (c .if1 .left))
+returns-2 c = sixteen-ones ∙ sym (every-bit 16 (c .before .args .n) (omega arith))
 
 pub first-spec : {M : Type 1} → statement M
 first-spec = tie.close (tie.spec cast-result shl-result sub-result returns returns-2)

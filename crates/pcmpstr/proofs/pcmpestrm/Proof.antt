@@ -1,14 +1,14 @@
 -- `pcmpstr::pcmpestrm` meets its contract, the definition of PCMPESTRM: refused above 127, else what the parts say of the operands, put together.
 -- Assumes nothing.
-use mathlib.Core.Path.{ap, _∙_}
-use Rattle.pcmpstr.specs.declared.Control.{Control}
+use mathlib.Core.Path.{refl, _∙_}
 use Rattle.pcmpstr.specs.Control.{controlOf}
 use Rattle.pcmpstr.specs.Output.{maskAnswer, refusedMask}
 use Rattle.pcmpstr.specs.Calls.{explicit, PCMPESTRM}
-use Rattle.pcmpstr.proofs.Unit.{accepted, refuses, mask-answered}
+use Rattle.pcmpstr.proofs.Unit.{refused, mask-called}
 use mir.Syntax.{w32}
 use mir.ValLaws.{toZ-ofZ}
 use borrow.Author.Needs.{needs}
+use native.Mathlib.Omega.{arith}
 use Rattle.pcmpstr.proofs.pcmpestrm.Statement.{statement}
 use Rattle.pcmpstr.proofs.pcmpestrm.Tie as tie
 
@@ -19,7 +19,7 @@ returns : tie.Need-returns
 unfolding PCMPESTRM
 returns c =
     let a = c .before .before .args in
-    c .refused .ensures ∙ refuses (maskAnswer (explicit (a .operand1) (a .length1) (a .operand2) (a .length2) (controlOf (a .control)))) refusedMask (a .control) (c .before .if1 .taken)
+    c .refused .ensures ∙ refused (maskAnswer (explicit (a .operand1) (a .length1) (a .operand2) (a .length2) (controlOf (a .control)))) refusedMask (a .control) (omega arith)
 
 decode-requires : tie.Need-decode-requires
 decode-requires c κs = search needs
@@ -35,11 +35,8 @@ unfolding PCMPESTRM
 returns-2 c =
     let s = c .before .before .before .before .before in
     let a = s .args in
-    let k = c .before .before .before .decode .result in
-    c .answer .ensures
-    ∙ mask-answered (explicit (a .operand1) (a .length1) (a .operand2) (a .length2) k) (c .before .explicit .result) (rw (toZ-ofZ w32 (a .length1) (s .fits .length1), toZ-ofZ w32 (a .length2) (s .fits .length2)) at (c .before .explicit .ensures))
-    ∙ ap (λ (k : Control). maskAnswer (explicit (a .operand1) (a .length1) (a .operand2) (a .length2) k)) (c .before .before .before .decode .ensures)
-    ∙ accepted (maskAnswer (explicit (a .operand1) (a .length1) (a .operand2) (a .length2) (controlOf (a .control)))) refusedMask (a .control) (c .before .before .before .before .if1 .left)
+    let k = c .before .before .before .decode in
+    mask-called (explicit (a .operand1) (a .length1) (a .operand2) (a .length2)) (a .control) (k .result) (c .before .explicit .result) refl (omega arith) (k .ensures) (rw (toZ-ofZ w32 (a .length1) (s .fits .length1), toZ-ofZ w32 (a .length2) (s .fits .length2)) at (c .before .explicit .ensures)) (c .answer .result) (c .answer .ensures)
 
 explicit-requires-2 : tie.Need-explicit-requires-2
 explicit-requires-2 c κs = search needs
@@ -52,11 +49,8 @@ unfolding PCMPESTRM
 returns-3 c =
     let s = c .before .before .before .before .before in
     let a = s .args in
-    let k = c .before .before .before .decode .result in
-    c .answer2 .ensures
-    ∙ mask-answered (explicit (a .operand1) (a .length1) (a .operand2) (a .length2) k) (c .before .explicit2 .result) (rw (toZ-ofZ w32 (a .length1) (s .fits .length1), toZ-ofZ w32 (a .length2) (s .fits .length2)) at (c .before .explicit2 .ensures))
-    ∙ ap (λ (k : Control). maskAnswer (explicit (a .operand1) (a .length1) (a .operand2) (a .length2) k)) (c .before .before .before .decode .ensures)
-    ∙ accepted (maskAnswer (explicit (a .operand1) (a .length1) (a .operand2) (a .length2) (controlOf (a .control)))) refusedMask (a .control) (c .before .before .before .before .if1 .left)
+    let k = c .before .before .before .decode in
+    mask-called (explicit (a .operand1) (a .length1) (a .operand2) (a .length2)) (a .control) (k .result) (c .before .explicit2 .result) refl (omega arith) (k .ensures) (rw (toZ-ofZ w32 (a .length1) (s .fits .length1), toZ-ofZ w32 (a .length2) (s .fits .length2)) at (c .before .explicit2 .ensures)) (c .answer2 .result) (c .answer2 .ensures)
 
 pub pcmpestrm-spec : {M : Type 1} → statement M
 pcmpestrm-spec =

@@ -1,12 +1,12 @@
 -- `pcmpstr::pcmpistri` meets its contract, the definition of PCMPISTRI: refused above 127, else what the parts say of the operands, put together.
 -- Assumes nothing.
-use mathlib.Core.Path.{ap, _∙_}
-use Rattle.pcmpstr.specs.declared.Control.{Control}
+use mathlib.Core.Path.{refl, _∙_}
 use Rattle.pcmpstr.specs.Control.{controlOf}
 use Rattle.pcmpstr.specs.Output.{indexAnswer, refusedIndex}
 use Rattle.pcmpstr.specs.Calls.{implicit, PCMPISTRI}
-use Rattle.pcmpstr.proofs.Unit.{accepted, refuses, index-answered}
+use Rattle.pcmpstr.proofs.Unit.{refused, index-called}
 use borrow.Author.Needs.{needs}
+use native.Mathlib.Omega.{arith}
 use Rattle.pcmpstr.proofs.pcmpistri.Statement.{statement}
 use Rattle.pcmpstr.proofs.pcmpistri.Tie as tie
 
@@ -17,7 +17,7 @@ returns : tie.Need-returns
 unfolding PCMPISTRI
 returns c =
     let a = c .before .before .args in
-    c .refused .ensures ∙ refuses (indexAnswer (implicit (a .operand1) (a .operand2) (controlOf (a .control)))) refusedIndex (a .control) (c .before .if1 .taken)
+    c .refused .ensures ∙ refused (indexAnswer (implicit (a .operand1) (a .operand2) (controlOf (a .control)))) refusedIndex (a .control) (omega arith)
 
 decode-requires : tie.Need-decode-requires
 decode-requires c κs = search needs
@@ -33,11 +33,8 @@ unfolding PCMPISTRI
 returns-2 c =
     let s = c .before .before .before .before .before in
     let a = s .args in
-    let k = c .before .before .before .decode .result in
-    c .answer .ensures
-    ∙ index-answered (implicit (a .operand1) (a .operand2) k) (c .before .implicit .result) (c .before .implicit .ensures)
-    ∙ ap (λ (k : Control). indexAnswer (implicit (a .operand1) (a .operand2) k)) (c .before .before .before .decode .ensures)
-    ∙ accepted (indexAnswer (implicit (a .operand1) (a .operand2) (controlOf (a .control)))) refusedIndex (a .control) (c .before .before .before .before .if1 .left)
+    let k = c .before .before .before .decode in
+    index-called (implicit (a .operand1) (a .operand2)) (a .control) (k .result) (c .before .implicit .result) refl (omega arith) (k .ensures) (c .before .implicit .ensures) (c .answer .result) (c .answer .ensures)
 
 implicit-requires-2 : tie.Need-implicit-requires-2
 implicit-requires-2 c κs = search needs
@@ -50,11 +47,8 @@ unfolding PCMPISTRI
 returns-3 c =
     let s = c .before .before .before .before .before in
     let a = s .args in
-    let k = c .before .before .before .decode .result in
-    c .answer2 .ensures
-    ∙ index-answered (implicit (a .operand1) (a .operand2) k) (c .before .implicit2 .result) (c .before .implicit2 .ensures)
-    ∙ ap (λ (k : Control). indexAnswer (implicit (a .operand1) (a .operand2) k)) (c .before .before .before .decode .ensures)
-    ∙ accepted (indexAnswer (implicit (a .operand1) (a .operand2) (controlOf (a .control)))) refusedIndex (a .control) (c .before .before .before .before .if1 .left)
+    let k = c .before .before .before .decode in
+    index-called (implicit (a .operand1) (a .operand2)) (a .control) (k .result) (c .before .implicit2 .result) refl (omega arith) (k .ensures) (c .before .implicit2 .ensures) (c .answer2 .result) (c .answer2 .ensures)
 
 pub pcmpistri-spec : {M : Type 1} → statement M
 pcmpistri-spec =

@@ -1,12 +1,12 @@
 -- `pcmpstr::pcmpistrm` meets its contract, the definition of PCMPISTRM: refused above 127, else what the parts say of the operands, put together.
 -- Assumes nothing.
-use mathlib.Core.Path.{ap, _∙_}
-use Rattle.pcmpstr.specs.declared.Control.{Control}
+use mathlib.Core.Path.{refl, _∙_}
 use Rattle.pcmpstr.specs.Control.{controlOf}
 use Rattle.pcmpstr.specs.Output.{maskAnswer, refusedMask}
 use Rattle.pcmpstr.specs.Calls.{implicit, PCMPISTRM}
-use Rattle.pcmpstr.proofs.Unit.{accepted, refuses, mask-answered}
+use Rattle.pcmpstr.proofs.Unit.{refused, mask-called}
 use borrow.Author.Needs.{needs}
+use native.Mathlib.Omega.{arith}
 use Rattle.pcmpstr.proofs.pcmpistrm.Statement.{statement}
 use Rattle.pcmpstr.proofs.pcmpistrm.Tie as tie
 
@@ -17,7 +17,7 @@ returns : tie.Need-returns
 unfolding PCMPISTRM
 returns c =
     let a = c .before .before .args in
-    c .refused .ensures ∙ refuses (maskAnswer (implicit (a .operand1) (a .operand2) (controlOf (a .control)))) refusedMask (a .control) (c .before .if1 .taken)
+    c .refused .ensures ∙ refused (maskAnswer (implicit (a .operand1) (a .operand2) (controlOf (a .control)))) refusedMask (a .control) (omega arith)
 
 decode-requires : tie.Need-decode-requires
 decode-requires c κs = search needs
@@ -33,11 +33,8 @@ unfolding PCMPISTRM
 returns-2 c =
     let s = c .before .before .before .before .before in
     let a = s .args in
-    let k = c .before .before .before .decode .result in
-    c .answer .ensures
-    ∙ mask-answered (implicit (a .operand1) (a .operand2) k) (c .before .implicit .result) (c .before .implicit .ensures)
-    ∙ ap (λ (k : Control). maskAnswer (implicit (a .operand1) (a .operand2) k)) (c .before .before .before .decode .ensures)
-    ∙ accepted (maskAnswer (implicit (a .operand1) (a .operand2) (controlOf (a .control)))) refusedMask (a .control) (c .before .before .before .before .if1 .left)
+    let k = c .before .before .before .decode in
+    mask-called (implicit (a .operand1) (a .operand2)) (a .control) (k .result) (c .before .implicit .result) refl (omega arith) (k .ensures) (c .before .implicit .ensures) (c .answer .result) (c .answer .ensures)
 
 implicit-requires-2 : tie.Need-implicit-requires-2
 implicit-requires-2 c κs = search needs
@@ -50,11 +47,8 @@ unfolding PCMPISTRM
 returns-3 c =
     let s = c .before .before .before .before .before in
     let a = s .args in
-    let k = c .before .before .before .decode .result in
-    c .answer2 .ensures
-    ∙ mask-answered (implicit (a .operand1) (a .operand2) k) (c .before .implicit2 .result) (c .before .implicit2 .ensures)
-    ∙ ap (λ (k : Control). maskAnswer (implicit (a .operand1) (a .operand2) k)) (c .before .before .before .decode .ensures)
-    ∙ accepted (maskAnswer (implicit (a .operand1) (a .operand2) (controlOf (a .control)))) refusedMask (a .control) (c .before .before .before .before .if1 .left)
+    let k = c .before .before .before .decode in
+    mask-called (implicit (a .operand1) (a .operand2)) (a .control) (k .result) (c .before .implicit2 .result) refl (omega arith) (k .ensures) (c .before .implicit2 .ensures) (c .answer2 .result) (c .answer2 .ensures)
 
 pub pcmpistrm-spec : {M : Type 1} → statement M
 pcmpistrm-spec =

@@ -1,19 +1,27 @@
--- `pcmpstr::mask::mask_of` meets its contract, by what the two masks say. Assumes nothing.
+-- `pcmpstr::mask::mask_of` meets its contract, by what the three masks say. Assumes nothing.
 use borrow.Author.Needs.{needs}
 use Rattle.pcmpstr.proofs.mask.mask_of.Statement.{statement}
 use Rattle.pcmpstr.proofs.mask.mask_of.Tie as tie
 
-element-mask-requires : tie.Need-element-mask-requires
-element-mask-requires c κs = search needs
+word-mask-requires : tie.Need-word-mask-requires
+word-mask-requires c κs = search needs
+
+byte-mask-requires : tie.Need-byte-mask-requires
+byte-mask-requires c κs = search needs
 
 bit-mask-requires : tie.Need-bit-mask-requires
 bit-mask-requires c κs = search needs
 
 returns : tie.Need-returns
-returns c = rw (c .before .if1 .taken) (c .element-mask .ensures)
+returns c = rw (c .before .before .if1 .taken, c .before .if2 .taken) (c .word-mask .ensures)
 
 returns-2 : tie.Need-returns-2
-returns-2 c = rw (c .before .if1 .left) (c .bit-mask .ensures)
+returns-2 c = rw (c .before .before .if1 .taken, c .before .if2 .left) (c .byte-mask .ensures)
+
+returns-3 : tie.Need-returns-3
+returns-3 c = rw (c .before .if1 .left) (c .bit-mask .ensures)
 
 pub mask-of-spec : {M : Type 1} → statement M
-mask-of-spec = tie.close (tie.spec element-mask-requires bit-mask-requires returns returns-2)
+mask-of-spec =
+    tie.close
+    (tie.spec word-mask-requires byte-mask-requires bit-mask-requires returns returns-2 returns-3)

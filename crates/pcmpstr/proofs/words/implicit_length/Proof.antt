@@ -1,26 +1,64 @@
--- `pcmpstr::words::implicit_length` meets its contract: the least bit of the places of 0 is the first zero. Assumes nothing.
-use mathlib.Core.Path.{_∙_}
+-- `pcmpstr::words::implicit_length` meets its contract. The invariant: none of the first i elements is zero. Assumes nothing.
+use Prim.Native.Nat.{ℕ, _≤_, _<_, _-_}
+use mathlib.Core.Path.{_≡_, _∙_, sym}
+use borrow.Author.Count.{below-more}
+use borrow.Author.Tests.{eq-eqb, ne-eqb}
 use lib.Dec.{eqb}
 use lib.ListN.{getD}
-use Rattle.bits.proofs.Numbers.{least-read}
+use Rattle.bits.proofs.Below.{least-at, least-none}
 use borrow.Author.Needs.{needs}
 use native.Mathlib.Omega.{arith}
 use Rattle.pcmpstr.proofs.words.implicit_length.Statement.{statement}
 use Rattle.pcmpstr.proofs.words.implicit_length.Tie as tie
 
-same-words-requires : tie.Need-same-words-requires
-same-words-requires c κs = search needs
+abbrev Inv-loop : tie.InvT-loop
+Inv-loop x i₀ i = (i ≤ 8) × ((k : ℕ) → k < i → getD x k 0 ≡ 0 → ⊥)
 
-least-requires : tie.Need-least-requires
-least-requires c κs = search needs
+abbrev μ-loop : tie.MeasureT-loop
+μ-loop x i₀ i = 8 - i
 
-cast-result : tie.Need-cast-result
-cast-result c = search needs
+loop-holds : tie.Need-loop-holds Inv-loop μ-loop
+loop-holds c = search needs
 
-returns : tie.Need-returns
+mul-if1 : tie.Need-mul-if1 Inv-loop μ-loop
+mul-if1 c = search needs
+
+element-copy-out-if1 : tie.Need-element-copy-out-if1 Inv-loop μ-loop
+element-copy-out-if1 c = search needs
+
+returns : tie.Need-returns Inv-loop μ-loop
 returns c =
-    c .least .ensures
-    ∙ least-read 8 (c .before .same-words .result) (λ j. eqb (getD (c .before .before .args .x .now) j 0) 0) (omega arith) (c .before .same-words .ensures)
+    let l = c .before .before .before in
+    let x = l .before .args .x .now in
+    sym (least-at 8 (λ j. eqb (getD x j 0) 0) (l .loop .i) (omega arith) (λ k u. ne-eqb (getD x k 0) 0 (l .loop .inv .1 k u)) (eq-eqb (getD x (l .loop .i) 0) 0 (c .if1 .taken)))
+
+add-i : tie.Need-add-i Inv-loop μ-loop
+add-i c = search needs
+
+loop-less : tie.Need-loop-less Inv-loop μ-loop
+loop-less c = search needs
+
+loop-again : tie.Need-loop-again Inv-loop μ-loop
+loop-again c = (omega arith, below-more _ _ (c .before .before .before .loop .inv .1) (c .if1 .left))
+
+returns-2 : tie.Need-returns-2 Inv-loop μ-loop
+returns-2 c =
+    let l = c .before in
+    let x = l .before .args .x .now in
+    let e : l .loop .i ≡ 8 = omega arith in
+    e ∙ sym (least-none 8 (λ j. eqb (getD x j 0) 0) (λ k u. ne-eqb (getD x k 0) 0 (l .loop .inv .1 k (omega arith))))
 
 pub implicit-length-spec : {M : Type 1} → statement M
-implicit-length-spec = tie.close (tie.spec same-words-requires least-requires cast-result returns)
+implicit-length-spec =
+    tie.close
+    (tie.spec
+    Inv-loop
+    μ-loop
+    loop-holds
+    mul-if1
+    element-copy-out-if1
+    returns
+    add-i
+    loop-less
+    loop-again
+    returns-2)
