@@ -1,15 +1,12 @@
 -- Laws of `tabulate`, and of loops that fill a list. Assumes nothing.
-use Prim.Native.Nat.{ℕ, zero, suc, _+_, _*_, _-_, _≤_, _<_}
-use mathlib.Core.Path.{_≡_, refl, sym, ap, subst, _∙_}
-use mathlib.Core.Bool.{Bool, true, false, cond}
-use mathlib.Core.List.{List, [], _∷_, _++_}
+use Prim.Native.Nat.{ℕ, zero, suc, _+_, _-_, _<_}
+use mathlib.Core.Path.{_≡_, refl, sym, subst, _∙_}
+use mathlib.Core.List.{List, [], _∷_}
 use native.Mathlib.Omega.{arith}
 use native.Mathlib.Nat.{add-zero, add-suc}
 use native.Mathlib.Numerals.{add-one}
-use lib.Dec.{eqb}
-use lib.ListN.{length, getD, take, drop, set, length-append, length-set, List·getD-append, drop-of-length-le}
-use lib.Seq.{drop-cons, take-suc, take-suc-set, take-all, getD-at}
-use borrow.Author.Tests.{eq-eqb, ne-eqb}
+use lib.ListN.{length, getD, take, set, length-append, List·getD-append}
+use lib.Seq.{take-suc-set, take-all, getD-at}
 use Rattle.bits.specs.Bits.{tabulate}
 
 -- ---- a list by its elements
@@ -41,16 +38,7 @@ pub fill : {A : Type 0} (a : List A) (i : ℕ) (f : ℕ → A) (v : A) → i < l
 unfolding tabulate
 fill a i f v h e q = rw (add-one, take-suc-set a i v h, e, q)
 
-pub tabulate-take : (x : List ℕ) (n : ℕ) → n ≤ length x → tabulate n (λ i. getD x i 0) ≡ take n x
-unfolding tabulate
-tabulate-take x zero h = refl
-tabulate-take x (suc n) h = rw (tabulate-take x n (omega arith), take-suc x n 0 (omega arith))
-
 -- the filled list is the whole list
 pub filled : {A : Type 0} (a : List A) (n : ℕ) (f : ℕ → A) → length a ≡ n → take n a ≡ tabulate n f → a ≡ tabulate n f
 unfolding tabulate
 filled a n f h e = sym (take-all n a (omega arith)) ∙ e
-
-pub tabulated : (x : List ℕ) (n : ℕ) → length x ≡ n → tabulate n (λ i. getD x i 0) ≡ x
-unfolding tabulate
-tabulated x n h = tabulate-take x n (omega arith) ∙ take-all n x (omega arith)

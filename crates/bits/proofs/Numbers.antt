@@ -11,7 +11,7 @@ use lib.Pow.{pow-pos, pow-lt, shr-shr}
 use lib.Bits.{bitAnd, bitOr, bitXor, differ, and-step, or-step, xor-step}
 use lib.Count.{trailingZeros, leadingZeros, under, leading-unique}
 use borrow.Author.Tests.{eqb-true, eqb-false, lt-ltb, le-ltb}
-use Rattle.bits.specs.Bits.{anyBelow, leastBelow, greatestBelow, numberOf, eightBits}
+use Rattle.bits.specs.Bits.{leastBelow, greatestBelow, numberOf, eightBits}
 use Rattle.bits.proofs.Below.{number-same, number-below, least-none}
 
 double : (t : Bool) (n : ℕ) → cond t (2 ^ suc n) 0 ≡ cond t (2 ^ n) 0 * 2
@@ -235,30 +235,6 @@ pub every-bit : (n m : ℕ) → n ≤ m → numberOf n (λ j. ltb j m) ≡ numbe
 unfolding numberOf
 every-bit n m h = number-same n (λ j. ltb j m) (λ j. true) (λ j u. lt-ltb j m (omega arith))
 
--- ---- bits written out
-
-unfoldable weights : ℕ → (ℕ → Bool) → ℕ
-weights zero p = 0
-weights (suc n) p = cond (p 0) 1 0 + 2 * weights n (λ j. p (suc j))
-
-number-weights : (n : ℕ) (p : ℕ → Bool) → weights n p ≡ numberOf n p
-unfolding weights numberOf
-number-weights zero p = refl
-number-weights (suc n) p = omega (arith, number-front n p, number-weights n (λ j. p (suc j)))
-
-pub number-eight : (p : ℕ → Bool) → eightBits p ≡ numberOf 8 p
-unfolding weights numberOf
-number-eight p = number-weights 8 p
-
-pub number-sixteen : (p : ℕ → Bool) → eightBits p + 256 * eightBits (λ j. p (8 + j)) ≡ numberOf 16 p
-unfolding weights numberOf
-number-sixteen p = omega (arith, number-weights 16 p)
-
--- a block compared with one value, repeated
-pub number-repeated : (n : ℕ) (x : List ℕ) (y : ℕ) → numberOf n (λ j. eqb (getD x j 0) (getD (replicate n y) j 0)) ≡ numberOf n (λ j. eqb (getD x j 0) y)
-number-repeated n x y =
-    number-same n _ (λ j. eqb (getD x j 0) y) (λ j h. ap (eqb (getD x j 0)) (getD-replicate n j y 0 h))
-
 -- every bit set
 pub sixteen-ones : 65535 ≡ numberOf 16 (λ j. true)
 unfolding numberOf
@@ -282,3 +258,27 @@ pub no-bits : (n : ℕ) → 0 ≡ numberOf n (λ j. false)
 unfolding numberOf
 no-bits zero = refl
 no-bits (suc n) = rw (← no-bits n)
+
+-- ---- bits written out
+
+unfoldable weights : ℕ → (ℕ → Bool) → ℕ
+weights zero p = 0
+weights (suc n) p = cond (p 0) 1 0 + 2 * weights n (λ j. p (suc j))
+
+number-weights : (n : ℕ) (p : ℕ → Bool) → weights n p ≡ numberOf n p
+unfolding weights numberOf
+number-weights zero p = refl
+number-weights (suc n) p = omega (arith, number-front n p, number-weights n (λ j. p (suc j)))
+
+pub number-eight : (p : ℕ → Bool) → eightBits p ≡ numberOf 8 p
+unfolding weights numberOf
+number-eight p = number-weights 8 p
+
+pub number-sixteen : (p : ℕ → Bool) → eightBits p + 256 * eightBits (λ j. p (8 + j)) ≡ numberOf 16 p
+unfolding weights numberOf
+number-sixteen p = omega (arith, number-weights 16 p)
+
+-- a block compared with one value, repeated
+pub number-repeated : (n : ℕ) (x : List ℕ) (y : ℕ) → numberOf n (λ j. eqb (getD x j 0) (getD (replicate n y) j 0)) ≡ numberOf n (λ j. eqb (getD x j 0) y)
+number-repeated n x y =
+    number-same n _ (λ j. eqb (getD x j 0) y) (λ j h. ap (eqb (getD x j 0)) (getD-replicate n j y 0 h))

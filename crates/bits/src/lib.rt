@@ -4,12 +4,13 @@
 // `least` and `greatest` find a set bit. None asks anything of its arguments.
 ghost use mathlib.Core.Path.{_≡_};
 ghost use mathlib.Core.Bool.{cond};
-ghost use Prim.Native.Nat.{_+_, _-_, _*_, _≤_, _<_};
+ghost use Prim.Native.Nat.{_+_, _-_, _*_, _<_};
 ghost use lib.Dec.{eqb, ltb};
 ghost use lib.ListN.{getD};
 ghost use lib.Count.{leadingZeros, trailingZeros};
 ghost use Rattle.bits.specs.Bits.{eightBits, numberOf};
 
+// A bit as a number.
 fn bit(t: bool) -> u16
     ensures { λ r. ⌜ (r ≡ cond t 1 0) × (r < 2) ⌝ }
 {
@@ -24,6 +25,7 @@ fn four(a: bool, b: bool, c: bool, d: bool) -> u16
     (bit(a) + bit(b) * 2) + (bit(c) + bit(d) * 2) * 4
 }
 
+// Eight bits of twice four, and sixteen of twice eight.
 fn eight(low: u16, high: u16) -> u16
     requires { ⌜ (low < 16) × (high < 16) ⌝ }
     ensures { λ r. ⌜ (r ≡ low + 16 * high) × (r < 256) ⌝ }

@@ -1,5 +1,5 @@
 -- What the loops of src/bytes.rt and src/words.rt compute, as numbers of b bits. Stated over b, which is 16 or 8. Assumes nothing.
-use Prim.Native.Nat.{ℕ, zero, suc, _+_, _*_, _-_, _/_, _%_, _^_, _≤_, _<_, min}
+use Prim.Native.Nat.{ℕ, zero, suc, _+_, _*_, _-_, _/_, _^_, _≤_, _<_, min}
 use mathlib.Core.Path.{_≡_, refl, sym, ap, subst, _∙_}
 use mathlib.Core.Bool.{Bool, true, false, cond, not, _&&_, _||_}
 use mathlib.Core.List.{List, [], _∷_, _++_}
@@ -12,8 +12,8 @@ use lib.ListN.{getD, replicate}
 use lib.IntN.{ℤ}
 use lib.Bits.{bitAnd, bitOr, bitXor, or-self, or-zero-l, or-zero-r}
 use borrow.Author.Tests.{eq-eqb, ne-eqb, lt-ltb, le-ltb}
-use Rattle.bits.specs.Bits.{anyBelow, allBelow, numberOf, tabulate}
-use Rattle.bits.proofs.Below.{or-true, and-true, and-false, any-more-below, all-cut, below-or, number-same}
+use Rattle.bits.specs.Bits.{allBelow, numberOf, tabulate}
+use Rattle.bits.proofs.Below.{and-over-or, or-true, and-true, and-false, any-more-below, all-cut, below-or, number-same}
 use Rattle.bits.proofs.Lists.{getD-tabulate, tabulate-same}
 use Rattle.bits.proofs.Numbers.{number-and, number-both, number-or, number-xor, number-cut, number-shift, number-zero, number-bits, no-bits}
 use Rattle.pcmpstr.specs.declared.Aggregation.the-variants.{EqualEach, EqualOrdered}
@@ -26,13 +26,6 @@ first-cut b l v h u e = e ∙ number-cut 16 b (λ j. ltb j l) h (λ i w z. le-lt
 
 -- ---- equal any
 
-both-sides : (a e v : Bool) → (a && v || (e && v)) ≡ (a || e) && v
-both-sides true true true = refl
-both-sides true true false = refl
-both-sides true false true = refl
-both-sides true false false = refl
-both-sides false e v = refl
-
 module _ (b : ℕ) (x₁ : List ℕ) (x₂ : List ℕ) (l₂ : ℕ) (h : b ≤ 16) (h₂ : l₂ ≤ b) where
   -- no element of operand 1 yet
   pub any-start : 0 ≡ numberOf b (anyOf x₁ 0 x₂ l₂)
@@ -43,7 +36,7 @@ module _ (b : ℕ) (x₁ : List ℕ) (x₂ : List ℕ) (l₂ : ℕ) (h : b ≤ 1
   any-more i r s v d e f =
       rw (d, e, first-cut b l₂ v h h₂ f, number-both b (λ j. eqb (getD x₂ j 0) (getD x₁ i 0)) (λ j. ltb j l₂), add-one)
       (number-or b (anyOf x₁ i x₂ l₂) (λ j. eqb (getD x₂ j 0) (getD x₁ i 0) && ltb j l₂)
-      ∙ number-same b _ (anyOf x₁ (suc i) x₂ l₂) (λ j u. both-sides (isIn x₁ i (getD x₂ j 0)) (eqb (getD x₂ j 0) (getD x₁ i 0)) (ltb j l₂)))
+      ∙ number-same b _ (anyOf x₁ (suc i) x₂ l₂) (λ j u. and-over-or (isIn x₁ i (getD x₂ j 0)) (eqb (getD x₂ j 0) (getD x₁ i 0)) (ltb j l₂)))
 
   full-bit : (s t v : Bool) → (s ≡ true → t ≡ true) → s && v ≡ v → s && v ≡ t && v
   full-bit true t true f e = rw (f refl)

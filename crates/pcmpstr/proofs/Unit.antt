@@ -1,24 +1,23 @@
 -- The number of each mode is the number of IntRes1, the polarity makes IntRes2 of it, and index, mask and flags are read off that.
 -- Stated over the width, `w`: `count w` is b. Assumes nothing.
-use Prim.Native.Nat.{ℕ, zero, suc, _+_, _*_, _-_, _/_, _%_, _^_, _≤_, _<_}
-use mathlib.Core.Path.{_≡_, refl, sym, ap, subst, _∙_}
-use mathlib.Core.Bool.{Bool, true, false, cond, not, _&&_, _||_}
-use mathlib.Core.List.{List, [], _∷_, _++_}
+use Prim.Native.Nat.{ℕ, zero, suc, _+_, _*_, _/_, _%_, _≤_, _<_}
+use mathlib.Core.Path.{_≡_, refl, sym, ap, _∙_}
+use mathlib.Core.Bool.{Bool, true, false, cond, not, _&&_}
+use mathlib.Core.List.{List, [], _∷_}
 use native.Mathlib.Omega.{arith}
 use lib.Dec.{eqb, ltb}
 use lib.ListN.{length, getD, replicate}
 use lib.IntN.{ℤ}
 use lib.Signed.{leZ}
-use lib.Count.{leadingZeros, trailingZeros}
+use lib.Count.{trailingZeros}
 use lib.Bits.{bitXor}
 use borrow.Author.Tests.{eq-eqb, ne-eqb, lt-ltb, le-ltb}
-use Rattle.bits.specs.Bits.{anyBelow, leastBelow, greatestBelow, numberOf, tabulate}
-use Rattle.bits.proofs.Below.{and-false, any-cut, any-same, number-same, number-none}
+use Rattle.bits.specs.Bits.{anyBelow, leastBelow, numberOf, tabulate}
+use Rattle.bits.proofs.Below.{and-over-or, and-false, any-cut, any-same, number-same, number-none}
 use Rattle.bits.proofs.Lists.{length-tabulate, tabulate-same}
-use Rattle.bits.proofs.Numbers.{number-xor, number-front, odd-of, number-bit, least-read, greatest-read, every-bit, no-bits}
+use Rattle.bits.proofs.Numbers.{number-xor, number-front, odd-of, number-bit, least-read, greatest-read, every-bit}
 use Rattle.pcmpstr.specs.declared.Control.{Control}
 use Rattle.pcmpstr.specs.declared.Compared.{Compared}
-use Rattle.pcmpstr.specs.declared.Flags.{Flags}
 use Rattle.pcmpstr.specs.declared.IndexAnswer.{IndexAnswer}
 use Rattle.pcmpstr.specs.declared.MaskAnswer.{MaskAnswer}
 use Rattle.pcmpstr.specs.declared.Aggregation.the-variants.{EqualAny, Ranges, EqualEach, EqualOrdered}
@@ -59,14 +58,7 @@ ranges-valid false false e = refl
 -- a test that every number of a search has in common
 any-and : (n : ℕ) (p : ℕ → Bool) (v : Bool) → anyBelow n (λ i. p i && v) ≡ anyBelow n p && v
 any-and zero p v = refl
-any-and (suc n) p v = rw (any-and n p v) (spread (anyBelow n p) (p n) v)
-  where
-    spread : (a e v : Bool) → (a && v || (e && v)) ≡ (a || e) && v
-    spread true true true = refl
-    spread true true false = refl
-    spread true false true = refl
-    spread true false false = refl
-    spread false e v = refl
+any-and (suc n) p v = rw (any-and n p v) (and-over-or (anyBelow n p) (p n) v)
 
 module _ (k : Control) (w : Bool) (e : k .words ≡ w) (x₁ : List ℕ) (l₁ : ℕ) (x₂ : List ℕ) (l₂ : ℕ) (h₁ : l₁ ≤ count w) where
   pub any-is : k .aggregation ≡ EqualAny → numberOf (count w) (anyOf x₁ l₁ x₂ l₂) ≡ numberOf (count w) (intRes1 (operands k x₁ l₁ x₂ l₂))
@@ -126,10 +118,6 @@ polarity-bit MaskedNegative false x = refl
 as-is : (t : Bool) → t ≡ cond t true false
 as-is true = refl
 as-is false = refl
-
--- the bits that each polarity negates
-pub negated-none : (b l : ℕ) → 0 ≡ numberOf b (λ j. withPolarity Positive (ltb j l) false)
-negated-none b l = no-bits b
 
 pub negated-all : (b l v : ℕ) → b ≤ 16 → v ≡ numberOf 16 (λ j. ltb j b) → v ≡ numberOf b (λ j. withPolarity Negative (ltb j l) false)
 negated-all b l v h e = first-cut b b v h (omega arith) e ∙ every-bit b b (omega arith)

@@ -1,6 +1,6 @@
 -- What is made of IntRes2: the index, the mask and the flags (Intel SSE4 reference, 5.3.1.4 and the four instruction pages).
 use Prim.Native.Nat.{ℕ, _/_, _%_}
-use mathlib.Core.Bool.{Bool, true, false, cond}
+use mathlib.Core.Bool.{false, cond}
 use mathlib.Core.List.{List, _∷_}
 use lib.Dec.{ltb}
 use lib.ListN.{replicate}

@@ -1,14 +1,14 @@
 -- The worked examples U1 to U9 of document 01, with every value that it gives, in one list that one computed check covers.
 use Prim.Native.Nat.{ℕ, _+_, _*_}
-use mathlib.Core.Bool.{Bool, true, false, not, _&&_}
+use mathlib.Core.Bool.{Bool, true, not, _&&_}
 use mathlib.Core.List.{List, [], _∷_, _++_}
 use lib.Dec.{T, eqb}
 use lib.ListN.{replicate, getD, take}
-use lib.IntN.{ℤ, pos}
+use lib.IntN.{pos}
 use Rattle.bits.specs.Bits.{leastBelow, greatestBelow, tabulate, numberOf}
 use Rattle.pcmpstr.specs.Control.{controlOf}
 use Rattle.pcmpstr.specs.Operand.{count, explicitLength, wordsOf}
-use Rattle.pcmpstr.specs.Compare.{Operands, boolRes, intRes1, intRes2}
+use Rattle.pcmpstr.specs.Compare.{boolRes, intRes1, intRes2}
 use Rattle.pcmpstr.specs.Output.{indexOf, maskOf, bitMask, elementMask, flagsOf}
 use Rattle.pcmpstr.specs.Calls.{explicit, PCMPESTRI, PCMPESTRM}
 

@@ -7,7 +7,7 @@ use crate::operand;
 ghost use mathlib.Core.Path.{_≡_};
 ghost use mathlib.Core.Bool.{cond, false, _&&_};
 ghost use Prim.Native.Nat.{_≤_};
-ghost use lib.Dec.{eqb, ltb};
+ghost use lib.Dec.{eqb};
 ghost use lib.ListN.{getD};
 ghost use lib.Bits.{bitOr};
 ghost use Rattle.bits.specs.Bits.{leastBelow, numberOf, tabulate};
@@ -59,6 +59,7 @@ fn value(signed: bool, x: u8) -> i16
     }
 }
 
+// 255 where an element is neither below its range nor above it.
 fn mark(low: bool, high: bool) -> u8
     ensures { λ r. ⌜ r ≡ cond (low && high) 255 0 ⌝ }
 {
@@ -125,6 +126,7 @@ pub fn equal_ordered(x1: &[u8; 16], l1: usize, x2: &[u8; 16], l2: usize) -> u32
     left
 }
 
+// IntRes1.
 fn aggregated(k: Control, x1: &[u8; 16], l1: usize, x2: &[u8; 16], l2: usize) -> u32
     requires { ⌜ (k .words ≡ false) × (l1 ≤ 16) × (l2 ≤ 16) ⌝ }
     ensures { λ r. ⌜ r ≡ numberOf 16 (intRes1 (operands k (now (x1 .entry)) l1 (now (x2 .entry)) l2)) ⌝ }
@@ -138,6 +140,7 @@ fn aggregated(k: Control, x1: &[u8; 16], l1: usize, x2: &[u8; 16], l2: usize) ->
     }
 }
 
+// IntRes2, with the effective lengths.
 fn compared(k: Control, x1: &[u8; 16], l1: usize, x2: &[u8; 16], l2: usize) -> Compared
     requires { ⌜ (k .words ≡ false) × (l1 ≤ 16) × (l2 ≤ 16) ⌝ }
     ensures { λ r. ⌜ r ≡ comparedOf (operands k (now (x1 .entry)) l1 (now (x2 .entry)) l2) ⌝ }

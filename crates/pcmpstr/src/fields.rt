@@ -6,6 +6,7 @@ ghost use mathlib.Core.Path.{_≡_};
 ghost use Prim.Native.Nat.{_<_};
 ghost use Rattle.pcmpstr.specs.Control.{aggregationOf, polarityOf, controlOf};
 
+// Bits 3:2.
 fn aggregation_of(n: u8) -> Aggregation
     requires { ⌜ n < 4 ⌝ }
     ensures { λ r. ⌜ r ≡ aggregationOf n ⌝ }
@@ -22,6 +23,7 @@ fn aggregation_of(n: u8) -> Aggregation
     Aggregation::EqualOrdered
 }
 
+// Bits 5:4.
 fn polarity_of(n: u8) -> Polarity
     requires { ⌜ n < 4 ⌝ }
     ensures { λ r. ⌜ r ≡ polarityOf n ⌝ }
@@ -38,6 +40,7 @@ fn polarity_of(n: u8) -> Polarity
     Polarity::MaskedNegative
 }
 
+// All fields of the control byte.
 pub fn decode(control: u8) -> Control
     ensures { λ r. ⌜ r ≡ controlOf control ⌝ }
 {

@@ -23,6 +23,7 @@ fn index_of(high: bool, b: usize, bits: u32) -> u32
     }
 }
 
+// The answer of an accepted call.
 pub fn answer(k: Control, t: Compared) -> IndexAnswer
     ensures { λ r. ⌜ r ≡ record { refusal = 0; index = indexRead (k .high) (count (k .words)) (t .bits); flags = flagsRead (count (k .words)) t } ⌝ }
 {
@@ -36,6 +37,7 @@ pub fn answer(k: Control, t: Compared) -> IndexAnswer
     }
 }
 
+// The answer of a refused call.
 pub fn refused() -> IndexAnswer
     ensures { λ r. ⌜ r ≡ refusedIndex ⌝ }
 {

@@ -24,6 +24,7 @@ fn bit_mask(bits: u32) -> [u8; 16]
     mask
 }
 
+// A byte of all ones where its bit is set.
 fn filled(bit: bool) -> u8
     ensures { λ r. ⌜ r ≡ cond bit 255 0 ⌝ }
 {
@@ -56,6 +57,7 @@ fn word_mask(bits: u32) -> [u8; 16]
     mask
 }
 
+// The mask that the output selection asks for.
 fn mask_of(high: bool, words: bool, bits: u32) -> [u8; 16]
     ensures { λ r. ⌜ r ≡ maskRead high words bits ⌝ }
 {
@@ -70,6 +72,7 @@ fn mask_of(high: bool, words: bool, bits: u32) -> [u8; 16]
     }
 }
 
+// The answer of an accepted call.
 pub fn answer(k: Control, t: Compared) -> MaskAnswer
     ensures { λ r. ⌜ r ≡ record { refusal = 0; mask = maskRead (k .high) (k .words) (t .bits); flags = flagsRead (count (k .words)) t } ⌝ }
 {
@@ -83,6 +86,7 @@ pub fn answer(k: Control, t: Compared) -> MaskAnswer
     }
 }
 
+// The answer of a refused call.
 pub fn refused() -> MaskAnswer
     ensures { λ r. ⌜ r ≡ refusedMask ⌝ }
 {

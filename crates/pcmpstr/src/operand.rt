@@ -36,6 +36,7 @@ pub fn explicit_length(b: usize, length: i32) -> usize
     if n < b { n } else { b }
 }
 
+// A word of two bytes, low byte first.
 fn word(low: u8, high: u8) -> u16
     ensures { λ r. ⌜ r ≡ low + 256 * high ⌝ }
 {

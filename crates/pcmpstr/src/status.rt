@@ -5,6 +5,7 @@ ghost use mathlib.Core.Path.{_≡_};
 ghost use Rattle.pcmpstr.specs.Output.{noFlags};
 ghost use Rattle.pcmpstr.specs.Parts.{flagsRead};
 
+// The flags of an accepted call, for operands of b elements.
 pub fn flags_of(b: usize, t: Compared) -> Flags
     ensures { λ r. ⌜ r ≡ flagsRead b t ⌝ }
 {

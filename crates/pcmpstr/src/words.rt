@@ -7,7 +7,7 @@ use crate::operand;
 ghost use mathlib.Core.Path.{_≡_};
 ghost use mathlib.Core.Bool.{cond, true, _&&_};
 ghost use Prim.Native.Nat.{_≤_};
-ghost use lib.Dec.{eqb, ltb};
+ghost use lib.Dec.{eqb};
 ghost use lib.ListN.{getD};
 ghost use lib.Bits.{bitOr};
 ghost use Rattle.bits.specs.Bits.{leastBelow, numberOf, tabulate};
@@ -63,6 +63,7 @@ fn value(signed: bool, x: u16) -> i32
     }
 }
 
+// 65535 where an element is neither below its range nor above it.
 fn mark(low: bool, high: bool) -> u16
     ensures { λ r. ⌜ r ≡ cond (low && high) 65535 0 ⌝ }
 {
@@ -129,6 +130,7 @@ pub fn equal_ordered(x1: &[u16; 8], l1: usize, x2: &[u16; 8], l2: usize) -> u32
     left
 }
 
+// IntRes1.
 fn aggregated(k: Control, x1: &[u16; 8], l1: usize, x2: &[u16; 8], l2: usize) -> u32
     requires { ⌜ (k .words ≡ true) × (l1 ≤ 8) × (l2 ≤ 8) ⌝ }
     ensures { λ r. ⌜ r ≡ numberOf 8 (intRes1 (operands k (now (x1 .entry)) l1 (now (x2 .entry)) l2)) ⌝ }
@@ -142,6 +144,7 @@ fn aggregated(k: Control, x1: &[u16; 8], l1: usize, x2: &[u16; 8], l2: usize) ->
     }
 }
 
+// IntRes2, with the effective lengths.
 fn compared(k: Control, x1: &[u16; 8], l1: usize, x2: &[u16; 8], l2: usize) -> Compared
     requires { ⌜ (k .words ≡ true) × (l1 ≤ 8) × (l2 ≤ 8) ⌝ }
     ensures { λ r. ⌜ r ≡ comparedOf (operands k (now (x1 .entry)) l1 (now (x2 .entry)) l2) ⌝ }

@@ -1,6 +1,4 @@
 -- `bits::alike_bytes` meets its contract: the two halves are the low and the high eight bits of one number. Assumes nothing.
-use Prim.Native.Nat.{ℕ}
-use mathlib.Core.Path.{_∙_}
 use borrow.Author.Needs.{needs}
 use native.Mathlib.Omega.{arith}
 use lib.Dec.{eqb}

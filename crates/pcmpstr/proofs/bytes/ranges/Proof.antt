@@ -1,6 +1,6 @@
 -- `pcmpstr::bytes::ranges` meets its contract. The invariant: the row marks the elements of x2 that lie in one of the first i ranges. Assumes
 -- nothing.
-use Prim.Native.Nat.{_≤_, _+_, _-_}
+use Prim.Native.Nat.{_≤_, _-_}
 use mathlib.Core.Path.{_≡_, refl}
 use mathlib.Core.Bool.{cond, false}
 use lib.ListN.{getD}

@@ -1,5 +1,5 @@
 -- `pcmpstr::bytes::within` meets its contract. The invariant: the first j elements of the row are filled. Assumes nothing.
-use Prim.Native.Nat.{_≤_, _+_, _-_}
+use Prim.Native.Nat.{_≤_, _-_}
 use mathlib.Core.Path.{_≡_, refl, ap}
 use mathlib.Core.Bool.{cond, false}
 use lib.ListN.{length, take, getD}

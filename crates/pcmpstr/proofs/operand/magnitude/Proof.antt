@@ -1,10 +1,10 @@
 -- `pcmpstr::operand::magnitude` meets its contract: a length from 16 up or from -16 down is cut first, and only one from -15 to -1 is negated.
 -- Assumes nothing.
-use mathlib.Core.Path.{_≡_, refl, sym, _∙_}
-use Prim.Native.Nat.{ℕ, _<_}
+use mathlib.Core.Path.{_≡_, _∙_}
+use Prim.Native.Nat.{_<_}
 use native.Mathlib.Omega.{arith}
-use lib.IntN.{ℤ, pos, natAbs, _-ℤ_}
-use mir.Syntax.{w32, w64}
+use lib.IntN.{pos, natAbs, _-ℤ_}
+use mir.Syntax.{w32}
 use mir.Val.{toZ, ofZ}
 use mir.ValLaws.{toZ-ofZ}
 use Rattle.pcmpstr.proofs.Signs.{cut-above, cut-below, absolute, kept, small}

@@ -1,5 +1,5 @@
 -- `pcmpstr::operand::words_of` meets its contract. The invariant: the first i words are filled. Assumes nothing.
-use Prim.Native.Nat.{_≤_, _+_, _-_}
+use Prim.Native.Nat.{_≤_, _-_}
 use mathlib.Core.Path.{_≡_, refl}
 use lib.ListN.{length, take}
 use Rattle.bits.specs.Bits.{tabulate}

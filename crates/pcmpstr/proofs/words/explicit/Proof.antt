@@ -1,5 +1,4 @@
 -- `pcmpstr::words::explicit` meets its contract: it hands on the elements and effective lengths that the definition names. Assumes nothing.
-use mathlib.Core.Path.{refl}
 use mathlib.Core.Bool.{true}
 use mir.Syntax.{w32}
 use mir.ValLaws.{toZ-ofZ}

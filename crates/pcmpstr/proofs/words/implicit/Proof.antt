@@ -1,5 +1,4 @@
 -- `pcmpstr::words::implicit` meets its contract: it hands on the elements and effective lengths that the definition names. Assumes nothing.
-use mathlib.Core.Path.{refl}
 use mathlib.Core.Bool.{true}
 use Rattle.bits.proofs.Below.{least-within}
 use Rattle.pcmpstr.proofs.Unit.{implicit-is, words-count}
