@@ -107,7 +107,9 @@ pub fn equal_each(x1: &[u8; 16], l1: usize, x2: &[u8; 16], l2: usize) -> u32
     (bits::alike_bytes(x2, x1) & v1 & v2) | ((v1 | v2) ^ 0xffff)
 }
 
-// Bit j: the valid elements of x1 stand in x2 from j on, as far as its sixteen go. It stops once they stand nowhere.
+// Bit j: the valid elements of x1 stand in x2 from j on, as far as its sixteen go. It stops once they stand nowhere, which it
+// asks from the second element on: whether a block holds the first one is hard to foretell, and a branch foretold wrongly costs more than
+// a compare. `(i + 15) / 16` is 0 at the first element and 1 after it.
 pub fn equal_ordered(x1: &[u8; 16], l1: usize, x2: &[u8; 16], l2: usize) -> u32
     requires { ⌜ (l1 ≤ 16) × (l2 ≤ 16) ⌝ }
     ensures { λ r. ⌜ r ≡ numberOf 16 (orderedOf 16 (now (x1 .entry)) l1 (now (x2 .entry)) l2) ⌝ }
@@ -118,7 +120,7 @@ pub fn equal_ordered(x1: &[u8; 16], l1: usize, x2: &[u8; 16], l2: usize) -> u32
     while i < l1 {
         let found = (bits::same_bytes(x2, x1[i]) & valid) | 0xffff0000;
         left = left & (found >> (i as u32));
-        if left == 0 {
+        if left < ((i + 15) / 16) as u32 {
             return 0;
         }
         i += 1;

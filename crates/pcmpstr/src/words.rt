@@ -111,7 +111,9 @@ pub fn equal_each(x1: &[u16; 8], l1: usize, x2: &[u16; 8], l2: usize) -> u32
     (bits::alike_words(x2, x1) & v1 & v2) | ((v1 | v2) ^ 0xff)
 }
 
-// Bit j: the valid elements of x1 stand in x2 from j on, as far as its eight go. It stops once they stand nowhere.
+// Bit j: the valid elements of x1 stand in x2 from j on, as far as its eight go. It stops once they stand nowhere, which it
+// asks from the second element on: whether a block holds the first one is hard to foretell, and a branch foretold wrongly costs more than
+// a compare. `(i + 15) / 16` is 0 at the first element and 1 after it.
 pub fn equal_ordered(x1: &[u16; 8], l1: usize, x2: &[u16; 8], l2: usize) -> u32
     requires { ⌜ (l1 ≤ 8) × (l2 ≤ 8) ⌝ }
     ensures { λ r. ⌜ r ≡ numberOf 8 (orderedOf 8 (now (x1 .entry)) l1 (now (x2 .entry)) l2) ⌝ }
@@ -122,7 +124,7 @@ pub fn equal_ordered(x1: &[u16; 8], l1: usize, x2: &[u16; 8], l2: usize) -> u32
     while i < l1 {
         let found = (bits::same_words(x2, x1[i]) & valid) | 0xffffff00;
         left = left & (found >> (i as u32));
-        if left == 0 {
+        if left < ((i + 15) / 16) as u32 {
             return 0;
         }
         i += 1;

@@ -39,13 +39,19 @@ cast-left c = search needs
 shr-left : tie.Need-shr-left Inv-loop μ-loop
 shr-left c = search needs
 
+add-if1 : tie.Need-add-if1 Inv-loop μ-loop
+add-if1 c = search needs
+
+cast-if1 : tie.Need-cast-if1 Inv-loop μ-loop
+cast-if1 c = search needs
+
 returns : tie.Need-returns Inv-loop μ-loop
 returns c =
     let l = c .before .before .before .before in
     let s = l .before .before in
     ordered-none 8 (s .args .x1 .now) (s .args .l1) (s .args .x2 .now) (s .args .l2) (omega arith) (s .pre .0) (s .pre .1) (l .loop .i + 1) _
     (ordered-more 8 (s .args .x1 .now) (s .args .l1) (s .args .x2 .now) (s .args .l2) (omega arith) (s .pre .0) (s .pre .1) (l .loop .i) (c .before .before .before .loop-test .taken) (c .before .same-words .result) (l .before .first .result) _ (l .loop .left) (c .before .same-words .ensures) (l .before .first .ensures) past-eight (l .loop .inv .1))
-    (c .if1 .taken)
+    (omega arith)
 
 add-i : tie.Need-add-i Inv-loop μ-loop
 add-i c = search needs
@@ -79,6 +85,8 @@ equal-ordered-spec =
     same-words-requires
     cast-left
     shr-left
+    add-if1
+    cast-if1
     returns
     add-i
     loop-less
