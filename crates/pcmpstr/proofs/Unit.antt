@@ -1,13 +1,13 @@
 -- The number of each mode is the number of IntRes1, the polarity makes IntRes2 of it, and index, mask and flags are read off that.
 -- Stated over the width, `w`: `count w` is b. Assumes nothing.
-use Prim.Native.Nat.{ℕ, zero, suc, _+_, _*_, _/_, _%_, _≤_, _<_}
+use Prim.Native.Nat.{ℕ, zero, suc, _+_, _*_, _/_, _%_, _≤_, _<_, min}
 use mathlib.Core.Path.{_≡_, refl, sym, ap, _∙_}
 use mathlib.Core.Bool.{Bool, true, false, cond, not, _&&_}
 use mathlib.Core.List.{List, [], _∷_}
 use native.Mathlib.Omega.{arith}
 use lib.Dec.{eqb, ltb}
 use lib.ListN.{length, getD, replicate}
-use lib.IntN.{ℤ}
+use lib.IntN.{ℤ, pos}
 use lib.Signed.{leZ}
 use lib.Count.{trailingZeros}
 use lib.Bits.{bitXor}
@@ -204,6 +204,11 @@ mask-answered o t e =
 pub explicit-most : (b : ℕ) (z : ℤ) → explicitLength b z ≤ b
 unfolding explicitLength
 explicit-most b z = omega arith
+
+-- a length that is not negative
+pub cut-explicit : (b n k : ℕ) → k ≡ min b n → k ≡ explicitLength b (pos n)
+unfolding explicitLength
+cut-explicit b n k e = e
 
 pub words-count : (x : List ℕ) → length (wordsOf x) ≡ 8
 unfolding wordsOf

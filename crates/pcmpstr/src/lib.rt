@@ -2,7 +2,8 @@
 // definition (specs/, after the Intel SSE4 Programming Reference, section 5.3 and the four instruction pages).
 //
 // Public calls: `pcmpestri`, `pcmpestrm`, `pcmpistri`, `pcmpistrm`, with the arguments of Intel's intrinsics in their order; and for
-// searches `pcmpestri_0c`, `pcmpestri_0d`, `pcmpestri_18`, `pcmpestri_19`, the index of `pcmpestri` at that control.
+// searches `pcmpestri_0c`, `pcmpestri_0d`, `pcmpestri_18`, `pcmpestri_19`, the index of `pcmpestri` at that control, for lengths that
+// are not negative.
 // Data flows through the modules in this order: fields, operand, bytes or words, negation, status, then index or mask.
 mod bytes;
 mod fields;
@@ -14,6 +15,7 @@ mod status;
 mod words;
 
 ghost use mathlib.Core.Path.{_≡_};
+ghost use lib.IntN.{pos};
 ghost use Rattle.pcmpstr.specs.Calls.{PCMPESTRI, PCMPESTRM, PCMPISTRI, PCMPISTRM};
 
 // The greatest control with a defined meaning: bit 7 of imm8 should be zero.
@@ -147,41 +149,41 @@ pub fn pcmpistrm(operand1: [u8; 16], operand2: [u8; 16], control: u8) -> MaskAns
 }
 
 // The index of `pcmpestri` at control 0Ch: where operand 1 first stands in operand 2, in unsigned bytes.
-pub fn pcmpestri_0c(operand1: [u8; 16], length1: i32, operand2: [u8; 16], length2: i32) -> u32
-    ensures { λ r. ⌜ r ≡ PCMPESTRI operand1 length1 operand2 length2 12 .index ⌝ }
+pub fn pcmpestri_0c(operand1: [u8; 16], length1: usize, operand2: [u8; 16], length2: usize) -> u32
+    ensures { λ r. ⌜ r ≡ PCMPESTRI operand1 (pos length1) operand2 (pos length2) 12 .index ⌝ }
 {
-    let l1 = operand::explicit_length(16, length1);
-    let l2 = operand::explicit_length(16, length2);
+    let l1 = operand::cut(16, length1);
+    let l2 = operand::cut(16, length2);
     bits::least(bytes::equal_ordered(&operand1, l1, &operand2, l2), 16)
 }
 
 // The index of `pcmpestri` at control 18h: where the operands first differ, in unsigned bytes.
-pub fn pcmpestri_18(operand1: [u8; 16], length1: i32, operand2: [u8; 16], length2: i32) -> u32
-    ensures { λ r. ⌜ r ≡ PCMPESTRI operand1 length1 operand2 length2 24 .index ⌝ }
+pub fn pcmpestri_18(operand1: [u8; 16], length1: usize, operand2: [u8; 16], length2: usize) -> u32
+    ensures { λ r. ⌜ r ≡ PCMPESTRI operand1 (pos length1) operand2 (pos length2) 24 .index ⌝ }
 {
-    let l1 = operand::explicit_length(16, length1);
-    let l2 = operand::explicit_length(16, length2);
+    let l1 = operand::cut(16, length1);
+    let l2 = operand::cut(16, length2);
     bits::least(bytes::equal_each(&operand1, l1, &operand2, l2) ^ 0xffff, 16)
 }
 
 // The index of `pcmpestri` at control 0Dh: where operand 1 first stands in operand 2, in unsigned words.
-pub fn pcmpestri_0d(operand1: [u8; 16], length1: i32, operand2: [u8; 16], length2: i32) -> u32
-    ensures { λ r. ⌜ r ≡ PCMPESTRI operand1 length1 operand2 length2 13 .index ⌝ }
+pub fn pcmpestri_0d(operand1: [u8; 16], length1: usize, operand2: [u8; 16], length2: usize) -> u32
+    ensures { λ r. ⌜ r ≡ PCMPESTRI operand1 (pos length1) operand2 (pos length2) 13 .index ⌝ }
 {
     let x1 = operand::words_of(operand1);
     let x2 = operand::words_of(operand2);
-    let l1 = operand::explicit_length(8, length1);
-    let l2 = operand::explicit_length(8, length2);
+    let l1 = operand::cut(8, length1);
+    let l2 = operand::cut(8, length2);
     bits::least(words::equal_ordered(&x1, l1, &x2, l2), 8)
 }
 
 // The index of `pcmpestri` at control 19h: where the operands first differ, in unsigned words.
-pub fn pcmpestri_19(operand1: [u8; 16], length1: i32, operand2: [u8; 16], length2: i32) -> u32
-    ensures { λ r. ⌜ r ≡ PCMPESTRI operand1 length1 operand2 length2 25 .index ⌝ }
+pub fn pcmpestri_19(operand1: [u8; 16], length1: usize, operand2: [u8; 16], length2: usize) -> u32
+    ensures { λ r. ⌜ r ≡ PCMPESTRI operand1 (pos length1) operand2 (pos length2) 25 .index ⌝ }
 {
     let x1 = operand::words_of(operand1);
     let x2 = operand::words_of(operand2);
-    let l1 = operand::explicit_length(8, length1);
-    let l2 = operand::explicit_length(8, length2);
+    let l1 = operand::cut(8, length1);
+    let l2 = operand::cut(8, length2);
     bits::least(words::equal_each(&x1, l1, &x2, l2) ^ 0xff, 8)
 }

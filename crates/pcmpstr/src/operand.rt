@@ -27,13 +27,19 @@ fn magnitude(length: i32) -> usize
     length as usize
 }
 
+// A length cut to b.
+pub fn cut(b: usize, n: usize) -> usize
+    ensures { λ r. ⌜ r ≡ min b n ⌝ }
+{
+    if n < b { n } else { b }
+}
+
 // The effective length of an operand of b elements, from an explicit length.
 pub fn explicit_length(b: usize, length: i32) -> usize
     requires { ⌜ b ≤ 16 ⌝ }
     ensures { λ r. ⌜ r ≡ explicitLength b length ⌝ }
 {
-    let n = magnitude(length);
-    if n < b { n } else { b }
+    cut(b, magnitude(length))
 }
 
 // A word of two bytes, low byte first.

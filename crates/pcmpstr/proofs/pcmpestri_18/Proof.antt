@@ -2,23 +2,23 @@
 -- Assumes nothing.
 use mathlib.Core.Path.{_∙_}
 use mathlib.Core.Bool.{false}
-use mir.Syntax.{w32}
-use mir.ValLaws.{toZ-ofZ}
-use Rattle.pcmpstr.proofs.Unit.{explicit-most, each-index}
+use lib.IntN.{pos}
+use native.Mathlib.Omega.{arith}
+use Rattle.pcmpstr.proofs.Unit.{cut-explicit, each-index}
 use Rattle.bits.proofs.Numbers.{sixteen-ones}
 use borrow.Author.Needs.{needs}
 use Rattle.pcmpstr.proofs.pcmpestri_18.Statement.{statement}
 use Rattle.pcmpstr.proofs.pcmpestri_18.Tie as tie
 
-explicit-length-requires : tie.Need-explicit-length-requires
-explicit-length-requires c κs = search needs
+cut-requires : tie.Need-cut-requires
+cut-requires c κs = search needs
 
-explicit-length-requires-2 : tie.Need-explicit-length-requires-2
-explicit-length-requires-2 c κs = search needs
+cut-requires-2 : tie.Need-cut-requires-2
+cut-requires-2 c κs = search needs
 
 equal-each-requires : tie.Need-equal-each-requires
 equal-each-requires c κs =
-    (rw (c .before .before .before .explicit-length .ensures) (explicit-most 16 _), rw (c .before .before .explicit-length2 .ensures) (explicit-most 16 _))
+    (omega (arith, c .before .before .before .cut .ensures), omega (arith, c .before .before .cut2 .ensures))
 
 least-requires : tie.Need-least-requires
 least-requires c κs = search needs
@@ -26,19 +26,19 @@ least-requires c κs = search needs
 returns : tie.Need-returns
 returns c =
     let s = c .before .before .before .before .before .before in
-    let f = c .before .before .before .before .before .explicit-length in
-    let g = c .before .before .before .before .explicit-length2 in
-    let l₁ = rw (toZ-ofZ w32 (s .args .length1) (s .fits .length1)) at (f .ensures) in
-    let l₂ = rw (toZ-ofZ w32 (s .args .length2) (s .fits .length2)) at (g .ensures) in
+    let f = c .before .before .before .before .before .cut in
+    let g = c .before .before .before .before .cut2 in
+    let l₁ = cut-explicit 16 (s .args .length1) (f .result) (f .ensures) in
+    let l₂ = cut-explicit 16 (s .args .length2) (g .result) (g .ensures) in
     c .least .ensures
-    ∙ each-index (s .args .t1) (s .args .length1) (s .args .t3) (s .args .length2) (f .result) (g .result) (c .before .equal-each .result) false _ sixteen-ones l₁ l₂ (c .before .equal-each .ensures)
+    ∙ each-index (s .args .t1) (pos (s .args .length1)) (s .args .t3) (pos (s .args .length2)) (f .result) (g .result) (c .before .equal-each .result) false _ sixteen-ones l₁ l₂ (c .before .equal-each .ensures)
 
 pub pcmpestri-18-spec : {M : Type 1} → statement M
 pcmpestri-18-spec =
     tie.close
     (tie.spec
-    explicit-length-requires
-    explicit-length-requires-2
+    cut-requires
+    cut-requires-2
     equal-each-requires
     least-requires
     returns)

@@ -10,21 +10,14 @@ use Rattle.pcmpstr.proofs.operand.explicit_length.Tie as tie
 magnitude-requires : tie.Need-magnitude-requires
 magnitude-requires c κs = search needs
 
+cut-requires : tie.Need-cut-requires
+cut-requires c κs = search needs
+
 returns : tie.Need-returns
 unfolding explicitLength
 returns c =
-    omega (
-      arith,
-      rw (toZ-ofZ w32 (c .before .before .args .length) (c .before .before .fits .length)) at (c .before .magnitude .ensures),
-    )
-
-returns-2 : tie.Need-returns-2
-unfolding explicitLength
-returns-2 c =
-    omega (
-      arith,
-      rw (toZ-ofZ w32 (c .before .before .args .length) (c .before .before .fits .length)) at (c .before .magnitude .ensures),
-    )
+    let s = c .before .before in
+    omega (arith, c .cut .ensures, rw (toZ-ofZ w32 (s .args .length) (s .fits .length)) at (c .before .magnitude .ensures))
 
 pub explicit-length-spec : {M : Type 1} → statement M
-explicit-length-spec = tie.close (tie.spec magnitude-requires returns returns-2)
+explicit-length-spec = tie.close (tie.spec magnitude-requires cut-requires returns)
