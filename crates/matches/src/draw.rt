@@ -1,0 +1,59 @@
+// What texts and needles are drawn from: the generator and the alphabets. Both widths draw the same; bytes take the low byte of each letter.
+ghost use Prim.Native.Nat.{_≤_};
+
+// Where the generator and every digest start. Any number but 0 would do.
+pub const SEED: u64 = 0x9e3779b97f4a7c15;
+
+// Three alphabets that a group asks for by name; `letter` has them all.
+pub const ANY: u64 = 0;
+
+pub const TWO: u64 = 1;
+
+pub const ONE: u64 = 3;
+
+// Words of which any two different ones share the low byte, the high byte, or neither.
+const HALVES_LETTERS: [u16; 4] = [0x6261, 0x6262, 0x6361, 0x6362];
+
+// Words at the ends of the two ranges, and those whose low or high byte is zero, as past a part's end.
+const EDGES_LETTERS: [u16; 8] = [
+    0x0000,
+    0x00ff,
+    0xff00,
+    0xffff,
+    0x0001,
+    0x0100,
+    0x7fff,
+    0x8000,
+];
+
+// The generator: xorshift64, which maps the numbers other than 0 onto themselves.
+pub fn next(state: u64) -> u64 {
+    let a = state ^ (state << 13);
+    let b = a ^ (a >> 7);
+    b ^ (b << 17)
+}
+
+// Where the generator starts for a case, so that each case can be run alone.
+pub fn seed(number: u64) -> u64 {
+    next(next(next(SEED ^ number)))
+}
+
+// A letter of an alphabet: 0 any letter, 1 two letters, for matches that overlap, 2 words that are alike in one byte alone, 3 one letter, for a match at every
+// place, 4 all bits zero or all one, 5 the edges.
+pub fn letter(alphabet: u64, draw: u64) -> u16 {
+    match alphabet {
+        0 => (draw % 65536) as u16,
+        1 => 0x6261 + (draw % 2) as u16,
+        2 => HALVES_LETTERS[(draw % 4) as usize],
+        3 => 0x5a5a,
+        4 => ((draw % 2) * 65535) as u16,
+        _ => EDGES_LETTERS[(draw % 8) as usize],
+    }
+}
+
+// The lesser of two numbers.
+pub fn lesser(a: usize, b: usize) -> usize
+    ensures { λ r. ⌜ (r ≤ a) × (r ≤ b) ⌝ }
+{
+    if a < b { a } else { b }
+}

@@ -1,0 +1,141 @@
+-- `search::Cursor::rest_in_words` meets its contract. The invariant: the pieces from i on, with the compares so far, make the step that all later
+-- pieces make. Assumes nothing.
+use Prim.Native.Nat.{_+_, _-_, _≤_}
+use mathlib.Core.Path.{_≡_, refl, sym, _∙_}
+use mathlib.Core.Bool.{true, false}
+use native.Mathlib.Omega.{arith}
+use borrow.Author.Needs.{needs}
+use Rattle.search.specs.Parts.{laterAt, rested}
+use Rattle.search.proofs.Pieces.{differsAt, differs-is, part-size, parts-match}
+use Rattle.search.proofs.Loops.{rested-end, rested-differs, rested-same}
+use Rattle.search.proofs.Cursor.rest_in_words.Statement.{statement}
+use Rattle.search.proofs.Cursor.rest_in_words.Tie as tie
+
+abbrev Inv-loop : tie.InvT-loop
+Inv-loop self text needle p m compares₀ i₀ compares i =
+    (8 ≤ i) × (compares ≤ self .compares + i) × (rested self (self .compares + 1) (laterAt true text needle (self .position) 8) ≡ rested self compares (laterAt true text needle (self .position) i))
+
+abbrev μ-loop : tie.MeasureT-loop
+μ-loop self text needle p m compares₀ i₀ compares i = m - i
+
+add-compares : tie.Need-add-compares Inv-loop μ-loop
+add-compares c = search needs
+
+loop-holds : tie.Need-loop-holds Inv-loop μ-loop
+loop-holds c = (omega arith, omega arith, refl)
+
+add-lesser : tie.Need-add-lesser Inv-loop μ-loop
+add-lesser c = search needs
+
+lesser-requires : tie.Need-lesser-requires Inv-loop μ-loop
+lesser-requires c κs = search needs
+
+add-from : tie.Need-add-from Inv-loop μ-loop
+add-from c = search needs
+
+add-to : tie.Need-add-to Inv-loop μ-loop
+add-to c = search needs
+
+mul-differ : tie.Need-mul-differ Inv-loop μ-loop
+mul-differ c = search needs
+
+sub-differ : tie.Need-sub-differ Inv-loop μ-loop
+sub-differ c = search needs
+
+part-differ-start : tie.Need-part-differ-start Inv-loop μ-loop
+part-differ-start c = search needs
+
+part-differ-end : tie.Need-part-differ-end Inv-loop μ-loop
+part-differ-end c = search needs
+
+mul-differ-2 : tie.Need-mul-differ-2 Inv-loop μ-loop
+mul-differ-2 c = search needs
+
+sub-differ-2 : tie.Need-sub-differ-2 Inv-loop μ-loop
+sub-differ-2 c = search needs
+
+part-differ-start-2 : tie.Need-part-differ-start-2 Inv-loop μ-loop
+part-differ-start-2 c = search needs
+
+part-differ-end-2 : tie.Need-part-differ-end-2 Inv-loop μ-loop
+part-differ-end-2 c = search needs
+
+differ-requires : tie.Need-differ-requires Inv-loop μ-loop
+differ-requires c κs =
+    let o = c .before .before in
+    let l = o .before .before in
+    let a = l .before .before .before .before .args in
+    (rw (part-size (l .loop .i) (o .lesser .result) (a .needle .now) (omega arith)) (omega arith), parts-match (a .self .position) (l .loop .i) (o .lesser .result) (a .text .now) (a .needle .now) (omega arith) (omega arith))
+
+add-stepped : tie.Need-add-stepped Inv-loop μ-loop
+add-stepped c = search needs
+
+stepped-requires : tie.Need-stepped-requires Inv-loop μ-loop
+stepped-requires c κs = search needs
+
+returns : tie.Need-returns Inv-loop μ-loop
+returns c =
+    let o = c .before .before .before .before .before in
+    let l = o .before .before in
+    let a = l .before .before .before .before .args in
+    let d = differs-is true (a .text .now) (a .needle .now) (a .self .position) (l .loop .i) (o .lesser .result) (omega arith) (o .lesser .ensures) in
+    let t : differsAt true (a .text .now) (a .needle .now) (a .self .position) (l .loop .i) ≡ true = d ∙ sym (c .before .before .differ .ensures) ∙ c .before .if1 .taken in
+    c .stepped .ensures ∙ sym (l .loop .inv .2 ∙ rested-differs true (a .text .now) (a .needle .now) (a .self) (l .loop .compares) (l .loop .i) (omega arith) t)
+
+add-compares-2 : tie.Need-add-compares-2 Inv-loop μ-loop
+add-compares-2 c = search needs
+
+add-i : tie.Need-add-i Inv-loop μ-loop
+add-i c = search needs
+
+loop-less : tie.Need-loop-less Inv-loop μ-loop
+loop-less c = search needs
+
+loop-again : tie.Need-loop-again Inv-loop μ-loop
+loop-again c =
+    let o = c .before .before .before .before in
+    let l = o .before .before in
+    let a = l .before .before .before .before .args in
+    let d = differs-is true (a .text .now) (a .needle .now) (a .self .position) (l .loop .i) (o .lesser .result) (omega arith) (o .lesser .ensures) in
+    let t : differsAt true (a .text .now) (a .needle .now) (a .self .position) (l .loop .i) ≡ false = d ∙ sym (c .before .differ .ensures) ∙ c .if1 .left in
+    (omega arith, omega arith, l .loop .inv .2 ∙ rested-same true (a .text .now) (a .needle .now) (a .self) (l .loop .compares) (l .loop .i) (omega arith) t)
+
+stepped-requires-2 : tie.Need-stepped-requires-2 Inv-loop μ-loop
+stepped-requires-2 c κs = search needs
+
+returns-2 : tie.Need-returns-2 Inv-loop μ-loop
+returns-2 c =
+    let l = c .before .before in
+    let a = l .before .before .before .before .args in
+    c .stepped2 .ensures ∙ sym (l .loop .inv .2 ∙ rested-end true (a .text .now) (a .needle .now) (a .self) (l .loop .compares) (l .loop .i) (omega arith))
+
+pub rest-in-words-spec : {M : Type 1} → statement M
+rest-in-words-spec =
+    tie.close
+    (tie.spec
+    Inv-loop
+    μ-loop
+    add-compares
+    loop-holds
+    add-lesser
+    lesser-requires
+    add-from
+    add-to
+    mul-differ
+    sub-differ
+    part-differ-start
+    part-differ-end
+    mul-differ-2
+    sub-differ-2
+    part-differ-start-2
+    part-differ-end-2
+    differ-requires
+    add-stepped
+    stepped-requires
+    returns
+    add-compares-2
+    add-i
+    loop-less
+    loop-again
+    stepped-requires-2
+    returns-2)

@@ -1,0 +1,100 @@
+-- `search::Cursor::walk_in_bytes` meets its contract. The invariant: the walk from the position reached, with the compares so far, ends as the
+-- walk from the start. Assumes nothing.
+use Prim.Native.Nat.{ℕ, _+_, _-_, _≤_, _<_}
+use mathlib.Core.Path.{_≡_, refl, sym, ap, _∙_}
+use mathlib.Core.Bool.{false}
+use lib.ListN.{length, length-take}
+use native.Mathlib.Omega.{arith}
+use borrow.Author.Needs.{needs}
+use Rattle.search.specs.Parts.{ended, total}
+use Rattle.search.proofs.Loops.{step-found, step-onward, found-here, total-past, total-few, nearer}
+use Rattle.search.proofs.Cursor.walk_in_bytes.Statement.{statement}
+use Rattle.search.proofs.Cursor.walk_in_bytes.Tie as tie
+
+abbrev Inv-loop : tie.InvT-loop
+Inv-loop self text needle n m l first at₀ at =
+    (at .position ≤ length text + 17) × (total false text needle at ≡ total false text needle self)
+
+abbrev μ-loop : tie.MeasureT-loop
+μ-loop self text needle n m l first at₀ at = n + 18 - at .position
+
+lesser-requires : tie.Need-lesser-requires Inv-loop μ-loop
+lesser-requires c κs = search needs
+
+slice-aggregate-padded : tie.Need-slice-aggregate-padded Inv-loop μ-loop
+slice-aggregate-padded c = rw length-take (omega arith)
+
+padded-requires : tie.Need-padded-requires Inv-loop μ-loop
+padded-requires c κs = rw length-take (omega arith)
+
+loop-holds : tie.Need-loop-holds Inv-loop μ-loop
+loop-holds c = (omega arith, refl)
+
+add-loop : tie.Need-add-loop Inv-loop μ-loop
+add-loop c = search needs
+
+step-in-bytes-requires : tie.Need-step-in-bytes-requires Inv-loop μ-loop
+step-in-bytes-requires c κs =
+    let l = c .before in
+    let s = l .before .before .before .before .before .before in
+    let few = total-few false (s .args .text .now) (s .args .needle .now) (s .args .self) (l .loop .at) (l .loop .inv .1) (omega arith) (omega arith) (omega arith) in
+    ((omega arith, omega arith, few), (omega arith, l .before .before .before .lesser .ensures, l .before .padded .ensures))
+
+matched-requires : tie.Need-matched-requires Inv-loop μ-loop
+matched-requires c κs =
+    let l = c .before .before .before .before in
+    let a = l .before .before .before .before .before .before .args in
+    let here = found-here false (a .text .now) (a .needle .now) (l .loop .at) (c .before .before .step-in-bytes .result) (c .before .before .step-in-bytes .ensures) (c .if1 .taken) in
+    omega arith
+
+returns : tie.Need-returns Inv-loop μ-loop
+returns c =
+    let l = c .before .before .before .before .before in
+    let a = l .before .before .before .before .before .before .args in
+    let t = c .before .before .before .step-in-bytes in
+    c .matched .ensures
+    ∙ sym (ap (ended (a .self .position)) (sym (l .loop .inv .1) ∙ step-found false (a .text .now) (a .needle .now) (l .loop .at) (t .result) (t .ensures) (c .before .if1 .taken)))
+
+loop-less : tie.Need-loop-less Inv-loop μ-loop
+loop-less c =
+    let l = c .before .before .before .before in
+    let a = l .before .before .before .before .before .before .args in
+    let t = c .before .before .step-in-bytes in
+    nearer (length (a .needle .now)) (length (a .text .now)) (l .loop .at .position) (t .result .cursor .position) (omega arith) (step-onward false (a .text .now) (a .needle .now) (l .loop .at) (t .result) (t .ensures) (c .if1 .left) (omega arith) .1)
+
+loop-again : tie.Need-loop-again Inv-loop μ-loop
+loop-again c =
+    let l = c .before .before .before .before in
+    let a = l .before .before .before .before .before .before .args in
+    let t = c .before .before .step-in-bytes in
+    let on = step-onward false (a .text .now) (a .needle .now) (l .loop .at) (t .result) (t .ensures) (c .if1 .left) (omega arith) in
+    (omega (arith, on .2), on .0 ∙ l .loop .inv .1)
+
+absent-requires : tie.Need-absent-requires Inv-loop μ-loop
+absent-requires c κs = search needs
+
+returns-2 : tie.Need-returns-2 Inv-loop μ-loop
+returns-2 c =
+    let l = c .before .before in
+    let a = l .before .before .before .before .before .before .args in
+    c .absent .ensures
+    ∙ sym (ap (ended (a .self .position)) (sym (l .loop .inv .1) ∙ total-past false (a .text .now) (a .needle .now) (l .loop .at) (omega arith)))
+
+pub walk-in-bytes-spec : {M : Type 1} → statement M
+walk-in-bytes-spec =
+    tie.close
+    (tie.spec
+    Inv-loop
+    μ-loop
+    lesser-requires
+    slice-aggregate-padded
+    padded-requires
+    loop-holds
+    add-loop
+    step-in-bytes-requires
+    matched-requires
+    returns
+    loop-less
+    loop-again
+    absent-requires
+    returns-2)

@@ -1,0 +1,156 @@
+// The search in bytes: operands filled from parts of text and needle, then a step, the walk, and the call.
+use crate::Cursor;
+use crate::Next;
+use crate::Stepped;
+use crate::lesser;
+ghost use mathlib.Core.Path.{_≡_};
+ghost use mathlib.Core.Bool.{false};
+ghost use Prim.Native.Nat.{_+_, _≤_, _<_, min};
+ghost use lib.Dec.{ltb};
+ghost use lib.ListN.{length, take};
+ghost use lib.IntN.{pos};
+ghost use Rattle.pcmpstr.specs.Calls.{PCMPESTRI};
+ghost use Rattle.search.specs.Walk.{operandOf, compareIndex, eachNegated, step};
+ghost use Rattle.search.specs.Cursors.{longestNeedle, longestText, mostCompares, nextMatch};
+ghost use Rattle.search.specs.Parts.{ended, laterAt, manyCompares, rested, stepped, total};
+
+// The operand of a part of sixteen bytes.
+fn whole(part: &[u8]) -> [u8; 16]
+    requires { ⌜ length (now part) ≡ 16 ⌝ }
+    ensures { λ r. ⌜ r ≡ operandOf false (now (part .entry)) ⌝ }
+{
+    [
+        part[0],
+        part[1],
+        part[2],
+        part[3],
+        part[4],
+        part[5],
+        part[6],
+        part[7],
+        part[8],
+        part[9],
+        part[10],
+        part[11],
+        part[12],
+        part[13],
+        part[14],
+        part[15],
+    ]
+}
+
+// The operand of a part of up to sixteen bytes, zero past the part's end.
+fn padded(part: &[u8]) -> [u8; 16]
+    requires { ⌜ length (now part) ≤ 16 ⌝ }
+    ensures { λ r. ⌜ r ≡ operandOf false (now (part .entry)) ⌝ }
+{
+    let mut bytes = [0u8; 16];
+    let mut i = 0;
+    while i < part.len() {
+        bytes[i] = part[i];
+        i += 1;
+    }
+    bytes
+}
+
+// Where the needle's first piece first stands in a block of the text: `first` is the piece's operand and l its length. A whole block is filled
+// without a test for each byte.
+fn index(first: [u8; 16], l: usize, block: &[u8]) -> u32
+    requires { ⌜ (l ≤ 16) × (length (now block) ≤ 16) ⌝ }
+    ensures { λ r. ⌜ r ≡ PCMPESTRI first (pos l) (operandOf false (now (block .entry))) (pos (length (now (block .entry)))) 12 .index ⌝ }
+{
+    if block.len() == 16 {
+        return pcmpstr::pcmpestri_0c(first, l, whole(block), 16);
+    }
+    pcmpstr::pcmpestri_0c(first, l, padded(block), block.len())
+}
+
+// A piece of the needle and as many bytes of the text differ.
+fn differ(piece: &[u8], part: &[u8]) -> bool
+    requires { ⌜ (length (now piece) ≤ 16) × (length (now part) ≡ length (now piece)) ⌝ }
+    ensures { λ r. ⌜ r ≡ ltb (compareIndex false eachNegated (now (piece .entry)) (now (part .entry))) 16 ⌝ }
+{
+    if piece.len() == 16 {
+        return pcmpstr::pcmpestri_18(whole(piece), 16, whole(part), 16) < 16;
+    }
+    let l = piece.len();
+    pcmpstr::pcmpestri_18(padded(piece), l, padded(part), l) < 16
+}
+
+impl Cursor {
+    // Whether the needle's later pieces stand in the text too, where its first stands at the cursor's position. The compare of the first piece
+    // is counted here with theirs.
+    fn rest_in_bytes(self, text: &[u8], needle: &[u8]) -> Stepped
+        requires { ⌜ (length (now text) ≤ longestText) × (self .position + length (now needle) ≤ length (now text)) × (self .compares ≤ manyCompares) ⌝ }
+        ensures { λ r. ⌜ r ≡ rested self (self .compares + 1) (laterAt false (now (text .entry)) (now (needle .entry)) (self .position) 16) ⌝ }
+    {
+        let p = self.position as usize;
+        let m = needle.len();
+        let mut compares = self.compares + 1;
+        let mut i = 16;
+        while i < m {
+            let e = lesser(i + 16, m);
+            let from = p + i;
+            let to = p + e;
+            if differ(&needle[i..e], &text[from..to]) {
+                return self.stepped(false, 1, compares + 1);
+            }
+            compares += 1;
+            i += 16;
+        }
+        self.stepped(true, 0, compares)
+    }
+
+    // One step of the walk, at a position that leaves room for the needle. `first` is the operand of the needle's first l bytes.
+    fn step_in_bytes(self, text: &[u8], needle: &[u8], first: [u8; 16], l: usize) -> Stepped
+        requires { ⌜ (length (now text) ≤ longestText) × (self .position + length (now needle) ≤ length (now text)) × (self .compares ≤ manyCompares) ⌝ }
+        requires { ⌜ (0 < length (now needle)) × (l ≡ min 16 (length (now needle))) × (first ≡ operandOf false (take l (now needle))) ⌝ }
+        ensures { λ r. ⌜ r ≡ stepped self (step false (now (text .entry)) (now (needle .entry)) (self .position)) ⌝ }
+    {
+        let p = self.position as usize;
+        let e = lesser(p + 16, text.len());
+        let k = index(first, l, &text[p..e]);
+        if k == 0 {
+            return self.rest_in_bytes(text, needle);
+        }
+        if k == 16 {
+            return self.stepped(false, (e - p) as u64, self.compares + 1);
+        }
+        self.stepped(false, k as u64, self.compares + 1)
+    }
+
+    // The walk from the cursor's position.
+    fn walk_in_bytes(self, text: &[u8], needle: &[u8]) -> Next
+        requires { ⌜ (length (now text) ≤ longestText) × (length (now needle) ≤ longestNeedle) × (0 < length (now needle)) ⌝ }
+        requires { ⌜ (self .position ≤ length (now text) + 1) × (self .compares ≤ mostCompares) ⌝ }
+        ensures { λ r. ⌜ r ≡ ended (self .position) (total false (now (text .entry)) (now (needle .entry)) self) ⌝ }
+    {
+        let n = text.len();
+        let m = needle.len();
+        let l = lesser(16, m);
+        let first = padded(&needle[..l]);
+        let mut at = self;
+        while (at.position as usize) + m <= n {
+            let s = at.step_in_bytes(text, needle, first, l);
+            at = s.cursor;
+            if s.found {
+                return at.matched();
+            }
+        }
+        at.absent(self.position)
+    }
+
+    // The next match of a needle of bytes (document 01: next hit).
+    pub fn next_in_bytes(self, text: &[u8], needle: &[u8]) -> Next
+        ensures { λ r. ⌜ r ≡ nextMatch false (now (text .entry)) (now (needle .entry)) self ⌝ }
+    {
+        let number = self.refusal(text.len(), needle.len());
+        if number > 0 {
+            return Next::Refused(number, self);
+        }
+        if needle.len() == 0 {
+            return self.empty_needle(text.len());
+        }
+        self.walk_in_bytes(text, needle)
+    }
+}

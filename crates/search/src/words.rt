@@ -1,0 +1,171 @@
+// The search in words: operands filled from parts of text and needle, then a step, the walk, and the call.
+use crate::Cursor;
+use crate::Next;
+use crate::Stepped;
+use crate::lesser;
+ghost use mathlib.Core.Path.{_≡_};
+ghost use mathlib.Core.Bool.{true};
+ghost use Prim.Native.Nat.{_+_, _/_, _%_, _≤_, _<_, min};
+ghost use lib.Dec.{ltb};
+ghost use lib.ListN.{length, take};
+ghost use lib.IntN.{pos};
+ghost use Rattle.pcmpstr.specs.Calls.{PCMPESTRI};
+ghost use Rattle.search.specs.Walk.{operandOf, compareIndex, eachNegated, step};
+ghost use Rattle.search.specs.Cursors.{longestNeedle, longestText, mostCompares, nextMatch};
+ghost use Rattle.search.specs.Parts.{ended, laterAt, manyCompares, rested, stepped, total};
+
+// The low byte of a word, and the high one.
+fn low(word: u16) -> u8
+    ensures { λ r. ⌜ r ≡ word % 256 ⌝ }
+{
+    (word % 256) as u8
+}
+
+fn high(word: u16) -> u8
+    ensures { λ r. ⌜ r ≡ word / 256 ⌝ }
+{
+    (word / 256) as u8
+}
+
+// The operand of a part of eight words, the low byte of each first.
+fn whole(part: &[u16]) -> [u8; 16]
+    requires { ⌜ length (now part) ≡ 8 ⌝ }
+    ensures { λ r. ⌜ r ≡ operandOf true (now (part .entry)) ⌝ }
+{
+    [
+        low(part[0]),
+        high(part[0]),
+        low(part[1]),
+        high(part[1]),
+        low(part[2]),
+        high(part[2]),
+        low(part[3]),
+        high(part[3]),
+        low(part[4]),
+        high(part[4]),
+        low(part[5]),
+        high(part[5]),
+        low(part[6]),
+        high(part[6]),
+        low(part[7]),
+        high(part[7]),
+    ]
+}
+
+// The operand of a part of up to eight words, zero past the part's end.
+fn padded(part: &[u16]) -> [u8; 16]
+    requires { ⌜ length (now part) ≤ 8 ⌝ }
+    ensures { λ r. ⌜ r ≡ operandOf true (now (part .entry)) ⌝ }
+{
+    let mut bytes = [0u8; 16];
+    let mut i = 0;
+    while i < part.len() {
+        let at = 2 * i;
+        bytes[at] = low(part[i]);
+        bytes[at + 1] = high(part[i]);
+        i += 1;
+    }
+    bytes
+}
+
+// Where the needle's first piece first stands in a block of the text: `first` is the piece's operand and l its length. A whole block is filled
+// without a test for each byte.
+fn index(first: [u8; 16], l: usize, block: &[u16]) -> u32
+    requires { ⌜ (l ≤ 8) × (length (now block) ≤ 8) ⌝ }
+    ensures { λ r. ⌜ r ≡ PCMPESTRI first (pos l) (operandOf true (now (block .entry))) (pos (length (now (block .entry)))) 13 .index ⌝ }
+{
+    if block.len() == 8 {
+        return pcmpstr::pcmpestri_0d(first, l, whole(block), 8);
+    }
+    pcmpstr::pcmpestri_0d(first, l, padded(block), block.len())
+}
+
+// A piece of the needle and as many words of the text differ.
+fn differ(piece: &[u16], part: &[u16]) -> bool
+    requires { ⌜ (length (now piece) ≤ 8) × (length (now part) ≡ length (now piece)) ⌝ }
+    ensures { λ r. ⌜ r ≡ ltb (compareIndex true eachNegated (now (piece .entry)) (now (part .entry))) 8 ⌝ }
+{
+    if piece.len() == 8 {
+        return pcmpstr::pcmpestri_19(whole(piece), 8, whole(part), 8) < 8;
+    }
+    let l = piece.len();
+    pcmpstr::pcmpestri_19(padded(piece), l, padded(part), l) < 8
+}
+
+impl Cursor {
+    // Whether the needle's later pieces stand in the text too, where its first stands at the cursor's position. The compare of the first piece
+    // is counted here with theirs.
+    fn rest_in_words(self, text: &[u16], needle: &[u16]) -> Stepped
+        requires { ⌜ (length (now text) ≤ longestText) × (self .position + length (now needle) ≤ length (now text)) × (self .compares ≤ manyCompares) ⌝ }
+        ensures { λ r. ⌜ r ≡ rested self (self .compares + 1) (laterAt true (now (text .entry)) (now (needle .entry)) (self .position) 8) ⌝ }
+    {
+        let p = self.position as usize;
+        let m = needle.len();
+        let mut compares = self.compares + 1;
+        let mut i = 8;
+        while i < m {
+            let e = lesser(i + 8, m);
+            let from = p + i;
+            let to = p + e;
+            if differ(&needle[i..e], &text[from..to]) {
+                return self.stepped(false, 1, compares + 1);
+            }
+            compares += 1;
+            i += 8;
+        }
+        self.stepped(true, 0, compares)
+    }
+
+    // One step of the walk, at a position that leaves room for the needle. `first` is the operand of the needle's first l words.
+    fn step_in_words(self, text: &[u16], needle: &[u16], first: [u8; 16], l: usize) -> Stepped
+        requires { ⌜ (length (now text) ≤ longestText) × (self .position + length (now needle) ≤ length (now text)) × (self .compares ≤ manyCompares) ⌝ }
+        requires { ⌜ (0 < length (now needle)) × (l ≡ min 8 (length (now needle))) × (first ≡ operandOf true (take l (now needle))) ⌝ }
+        ensures { λ r. ⌜ r ≡ stepped self (step true (now (text .entry)) (now (needle .entry)) (self .position)) ⌝ }
+    {
+        let p = self.position as usize;
+        let e = lesser(p + 8, text.len());
+        let k = index(first, l, &text[p..e]);
+        if k == 0 {
+            return self.rest_in_words(text, needle);
+        }
+        if k == 8 {
+            return self.stepped(false, (e - p) as u64, self.compares + 1);
+        }
+        self.stepped(false, k as u64, self.compares + 1)
+    }
+
+    // The walk from the cursor's position.
+    fn walk_in_words(self, text: &[u16], needle: &[u16]) -> Next
+        requires { ⌜ (length (now text) ≤ longestText) × (length (now needle) ≤ longestNeedle) × (0 < length (now needle)) ⌝ }
+        requires { ⌜ (self .position ≤ length (now text) + 1) × (self .compares ≤ mostCompares) ⌝ }
+        ensures { λ r. ⌜ r ≡ ended (self .position) (total true (now (text .entry)) (now (needle .entry)) self) ⌝ }
+    {
+        let n = text.len();
+        let m = needle.len();
+        let l = lesser(8, m);
+        let first = padded(&needle[..l]);
+        let mut at = self;
+        while (at.position as usize) + m <= n {
+            let s = at.step_in_words(text, needle, first, l);
+            at = s.cursor;
+            if s.found {
+                return at.matched();
+            }
+        }
+        at.absent(self.position)
+    }
+
+    // The next match of a needle of words (document 01: next hit).
+    pub fn next_in_words(self, text: &[u16], needle: &[u16]) -> Next
+        ensures { λ r. ⌜ r ≡ nextMatch true (now (text .entry)) (now (needle .entry)) self ⌝ }
+    {
+        let number = self.refusal(text.len(), needle.len());
+        if number > 0 {
+            return Next::Refused(number, self);
+        }
+        if needle.len() == 0 {
+            return self.empty_needle(text.len());
+        }
+        self.walk_in_words(text, needle)
+    }
+}
