@@ -1,14 +1,32 @@
--- Laws of `anyBelow`, `allBelow`, `leastBelow`, and the size of `numberOf`. Assumes nothing.
+-- What a test tells; laws of `anyBelow`, `allBelow`, `leastBelow`, and the size of `numberOf`. Assumes nothing.
 use Prim.Native.Nat.{ℕ, zero, suc, _+_, _-_, _^_, _≤_, _<_}
 use mathlib.Core.Path.{_≡_, refl, ap}
 use mathlib.Core.Bool.{Bool, true, false, cond, not, _&&_, _||_}
-use mathlib.Core.Logic.{_⊎_, inl, inr}
-use native.Mathlib.Nat.{add-zero, add-suc}
+use native.Mathlib.Nat.{add-zero, add-suc, not-suc-le-zero, le-of-suc-le-suc}
 use native.Mathlib.Omega.{arith}
 use lib.Dec.{eqb, ltb}
 use lib.Pow.{pow-pos}
 use borrow.Author.Tests.{ne-eqb, ltb-true, ltb-false}
 use Rattle.bits.specs.Bits.{anyBelow, allBelow, leastBelow, numberOf}
+
+-- ---- tests
+
+pub and-left : (a b : Bool) → a && b ≡ true → a ≡ true
+and-left true b e = refl
+and-left false b e = e
+
+pub and-right : (a b : Bool) → a && b ≡ true → b ≡ true
+and-right true b e = e
+and-right false b e = absurd (let z : _≡_ {A = ℕ} 0 1 = cc in omega arith)
+
+-- a test, with what it came to
+pub by-test {ℓ} : {X : Type ℓ} (t : Bool) → (t ≡ true → X) → (t ≡ false → X) → X
+by-test true f g = f refl
+by-test false f g = g refl
+
+-- below, or not
+pub by-order {ℓ} : {X : Type ℓ} (a b : ℕ) → (a < b → X) → (b ≤ a → X) → X
+by-order a b f g = by-test (ltb a b) (λ e. f (ltb-true a b e)) (λ e. g (ltb-false a b e))
 
 or-false : (x : Bool) → (x || false) ≡ x
 or-false true = refl
@@ -73,6 +91,16 @@ all-cut n m p h f =
     let q : m + (n - m) ≡ n = omega arith in
     rw q at (all-past p m (n - m) (λ i u v. f i u (omega arith)))
 
+pub all-each : (n : ℕ) (p : ℕ → Bool) → allBelow n p ≡ true → (i : ℕ) → i < n → p i ≡ true
+all-each zero p e i h = absurd (not-suc-le-zero h)
+all-each (suc n) p e i h =
+    by-order i n (all-each n p (and-left (allBelow n p) (p n) e) i)
+    (λ g. let last : i ≡ n = omega arith in rw last (and-right (allBelow n p) (p n) e))
+
+pub each-all : (n : ℕ) (p : ℕ → Bool) → ((i : ℕ) → i < n → p i ≡ true) → allBelow n p ≡ true
+each-all zero p f = refl
+each-all (suc n) p f = rw (each-all n p (λ i h. f i (omega arith))) (f n (omega arith))
+
 -- ---- the least number
 
 pub least-at : (n : ℕ) (p : ℕ → Bool) (i : ℕ) → i < n → ((k : ℕ) → k < i → p k ≡ false) → p i ≡ true → leastBelow n p ≡ i
@@ -94,6 +122,20 @@ pub least-within : (n : ℕ) (p : ℕ → Bool) → leastBelow n p ≤ n
 unfolding leastBelow
 least-within zero p = omega arith
 least-within (suc n) p = within-step (p 0) (leastBelow n (λ j. p (suc j))) n (least-within n (λ j. p (suc j)))
+
+pub least-before : (n : ℕ) (p : ℕ → Bool) (j : ℕ) → j < leastBelow n p → p j ≡ false
+unfolding leastBelow
+least-before zero p j h = absurd (not-suc-le-zero h)
+least-before (suc n) p zero h = by-test (p zero) (λ e. absurd (not-suc-le-zero (rw e at h))) (λ e. e)
+least-before (suc n) p (suc j) h =
+    by-test (p zero) (λ e. absurd (not-suc-le-zero (rw e at h)))
+    (λ e. least-before n (λ k. p (suc k)) j (le-of-suc-le-suc (rw e at h)))
+
+pub least-passes : (n : ℕ) (p : ℕ → Bool) → leastBelow n p < n → p (leastBelow n p) ≡ true
+unfolding leastBelow
+least-passes zero p h = absurd (not-suc-le-zero h)
+least-passes (suc n) p h =
+    by-test (p zero) (λ e. rw e e) (λ e. rw e (least-passes n (λ k. p (suc k)) (le-of-suc-le-suc (rw e at h))))
 
 -- ---- the number of the bits
 
@@ -120,10 +162,3 @@ pub number-none : (n : ℕ) (p : ℕ → Bool) → eqb (numberOf n p) 0 ≡ not 
 unfolding numberOf
 number-none zero p = refl
 number-none (suc n) p = none-step (p n) (anyBelow n p) (numberOf n p) (2 ^ n) (pow-pos n) (number-none n p)
-
-below-by : (a b : ℕ) (t : Bool) → ltb a b ≡ t → (a < b) ⊎ (b ≤ a)
-below-by a b true e = inl (ltb-true a b e)
-below-by a b false e = inr (ltb-false a b e)
-
-pub below-or : (a b : ℕ) → (a < b) ⊎ (b ≤ a)
-below-or a b = below-by a b (ltb a b) refl

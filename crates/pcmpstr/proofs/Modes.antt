@@ -3,7 +3,6 @@ use Prim.Native.Nat.{ℕ, zero, suc, _+_, _*_, _-_, _/_, _^_, _≤_, _<_, min}
 use mathlib.Core.Path.{_≡_, refl, sym, ap, subst, _∙_}
 use mathlib.Core.Bool.{Bool, true, false, cond, not, _&&_, _||_}
 use mathlib.Core.List.{List, [], _∷_, _++_}
-use mathlib.Core.Logic.{_⊎_, ⊎-elim}
 use native.Mathlib.Nat.{add-zero, add-suc, add-comm}
 use native.Mathlib.Numerals.{add-one}
 use native.Mathlib.Omega.{arith}
@@ -13,7 +12,7 @@ use lib.IntN.{ℤ}
 use lib.Bits.{bitAnd, bitOr, bitXor, or-self, or-zero-l, or-zero-r}
 use borrow.Author.Tests.{eq-eqb, ne-eqb, lt-ltb, le-ltb}
 use Rattle.bits.specs.Bits.{allBelow, numberOf, tabulate}
-use Rattle.bits.proofs.Below.{and-over-or, or-true, and-true, and-false, any-more-below, all-cut, below-or, number-same}
+use Rattle.bits.proofs.Below.{and-over-or, or-true, and-true, and-false, any-more-below, all-cut, by-order, number-same}
 use Rattle.bits.proofs.Lists.{getD-tabulate, tabulate-same}
 use Rattle.bits.proofs.Numbers.{number-and, number-both, number-or, number-xor, number-cut, number-shift, number-zero, number-bits, no-bits}
 use Rattle.pcmpstr.specs.declared.Aggregation.the-variants.{EqualEach, EqualOrdered}
@@ -154,15 +153,14 @@ module _ (b : ℕ) (x₁ : List ℕ) (l₁ : ℕ) (x₂ : List ℕ) (l₂ : ℕ)
   module _ (i : ℕ) (u : i < l₁) where
     more : (j : ℕ) → (standingTo b x₁ l₁ x₂ l₂ i j && matching b x₁ x₂ l₂ i (i + j)) ≡ standingTo b x₁ l₁ x₂ l₂ (i + 1) j
     more j =
-        ⊎-elim
-        (λ (v : i + j < b).
+        by-order (i + j) b
+        (λ v.
         let d : min i (b - j) ≡ i = omega arith in
         let e : min (i + 1) (b - j) ≡ suc i = omega arith in
         rw (d, e, lt-ltb (i + j) b v, add-comm i j, lt-ltb i l₁ u) (ap (λ (t : Bool). allBelow i (follows x₁ l₁ x₂ l₂ j) && t) (ordered-bit (ltb (j + i) l₂) (eqb (getD x₂ (j + i) 0) (getD x₁ i 0)))))
-        (λ (v : b ≤ i + j).
+        (λ v.
         let d : min (i + 1) (b - j) ≡ min i (b - j) = omega arith in
         rw (d, le-ltb (i + j) b v, or-true, and-true))
-        (below-or (i + j) b)
 
     -- the places of element i, with every bit from b on set
     matches : (s v past : ℕ) → s ≡ numberOf b (λ t. eqb (getD x₂ t 0) (getD x₁ i 0)) → v ≡ numberOf 16 (λ t. ltb t l₂) → past ≡ numberOf 32 (λ t. not (ltb t b)) → bitOr (bitAnd s v) past ≡ numberOf 32 (matching b x₁ x₂ l₂ i)

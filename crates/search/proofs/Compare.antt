@@ -10,7 +10,7 @@ use lib.IntN.{ℤ, pos}
 use native.Mathlib.Omega.{arith}
 use borrow.Author.Tests.{ltb-true, ltb-false, lt-ltb, le-ltb, eqb-true, eq-eqb, ne-eqb, not-false}
 use Rattle.bits.specs.Bits.{leastBelow, greatestBelow, tabulate}
-use Rattle.bits.proofs.Below.{least-within}
+use Rattle.bits.proofs.Below.{least-within, by-test, least-before, least-passes, all-each, each-all}
 use Rattle.bits.proofs.Lists.{getD-tabulate}
 use Rattle.pcmpstr.specs.declared.Control.{Control}
 use Rattle.pcmpstr.specs.declared.Aggregation.the-variants.{EqualOrdered}
@@ -22,7 +22,6 @@ use Rattle.pcmpstr.specs.Calls.{explicit, PCMPESTRI}
 use Rattle.pcmpstr.specs.Parts.{eachOf, follows, orderedOf}
 use Rattle.pcmpstr.proofs.ValidElements.{bits-same}
 use Rattle.search.specs.Walk.{operandOf, compareIndex, ordered, eachNegated}
-use Rattle.search.proofs.Tests.{by-test, least-before, least-passes, all-each, each-all}
 
 -- ---- the operand of a part
 

@@ -1,6 +1,5 @@
 -- What the compares, the later pieces, a step, a walk and a list of calls come to, each from the one before; Lists ends in the theorem
 -- `calls-find-all`. The laws that the proofs of the code cite stand where their definition is treated.
-pub mod Tests
 pub mod Compare
 pub mod Pieces
 pub mod Steps

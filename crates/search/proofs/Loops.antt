@@ -10,13 +10,13 @@ use native.Mathlib.Omega.{arith}
 use native.Mathlib.Nat.{add-zero, add-assoc}
 use native.Mathlib.Numerals.{add-one}
 use borrow.Author.Tests.{lt-ltb, le-ltb}
+use Rattle.bits.proofs.Below.{by-order}
 use Rattle.pcmpstr.specs.Operand.{count}
 use Rattle.search.specs.declared.Cursor.{Cursor}
 use Rattle.search.specs.declared.Stepped.{Stepped}
 use Rattle.search.specs.Walk.{Later, noneDiffers, oneDiffers, more, Step, here, noRoom, onward, afterLater, step, Ended, matchAt, nowhere, plus, walk}
 use Rattle.search.specs.Cursors.{longestText, longestNeedle, mostCompares, refusal, accepted, nextMatch}
 use Rattle.search.specs.Parts.{laterAt, manyCompares, steppedBy, stepped, rested, total, ended, emptyNeedle}
-use Rattle.search.proofs.Tests.{by-order}
 use Rattle.search.proofs.Pieces.{differsAt, later-end, later-differs, later-same, more-none}
 use Rattle.search.proofs.Steps.{step-past, step-empty, step-ok}
 use Rattle.search.proofs.Walks.{plus-plus, walk-here, walk-past, walk-onward, onward-later, onward-near, walkCompares, walk-few}

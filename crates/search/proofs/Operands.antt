@@ -9,9 +9,9 @@ use lib.Seq.{ext-getD, getD-set-same, getD-set-other}
 use native.Mathlib.Omega.{arith}
 use borrow.Author.Tests.{lt-ltb, le-ltb, eq-eqb, ne-eqb, eqb-true, eqb-false}
 use Rattle.bits.specs.Bits.{tabulate}
+use Rattle.bits.proofs.Below.{by-test, by-order}
 use Rattle.bits.proofs.Lists.{length-tabulate, getD-tabulate, tabulate-same}
 use Rattle.search.specs.Walk.{operandByte}
-use Rattle.search.proofs.Tests.{by-test, by-order}
 
 -- the first k bytes, and zero
 abbrev pub upTo : (ℕ → ℕ) → ℕ → ℕ → ℕ

@@ -10,11 +10,11 @@ use lib.Seq.{getD-take, getD-drop, drop-drop, take-all}
 use native.Mathlib.Omega.{arith}
 use native.Mathlib.Nat.{not-suc-le-zero, le-of-suc-le-suc, add-zero, zero-add, add-assoc}
 use borrow.Author.Tests.{ltb-true, ltb-false, eqb-true, eq-eqb, leb-true, le-leb}
+use Rattle.bits.proofs.Below.{by-test, by-order, and-left, and-right}
 use Rattle.pcmpstr.specs.Operand.{count}
 use Rattle.search.specs.Positions.{startsWith, stands}
 use Rattle.search.specs.Walk.{compareIndex, eachNegated, Later, noneDiffers, oneDiffers, more, pieceDiffers, afterPiece, laterFrom, later}
 use Rattle.search.specs.Parts.{laterAt}
-use Rattle.search.proofs.Tests.{by-test, by-order, and-left, and-right}
 use Rattle.search.proofs.Compare.{each-differs, each-same}
 
 -- ---- where the needle stands, by elements

@@ -10,13 +10,12 @@ use lib.Seq.{getD-take, getD-drop, drop-drop}
 use lib.IntN.{pos}
 use native.Mathlib.Omega.{arith}
 use native.Mathlib.Nat.{not-suc-le-zero, add-zero, zero-add, add-assoc}
-use native.Mathlib.Numerals.{add-one}
 use borrow.Author.Tests.{ltb-true, ltb-false, lt-ltb, le-ltb, ne-eqb, eqb-true}
+use Rattle.bits.proofs.Below.{by-test, by-order}
 use Rattle.pcmpstr.specs.Operand.{count}
 use Rattle.pcmpstr.specs.Calls.{PCMPESTRI}
 use Rattle.search.specs.Positions.{stands, positionsFrom}
 use Rattle.search.specs.Walk.{operandOf, compareIndex, ordered, Later, noneDiffers, oneDiffers, later, Step, here, noRoom, onward, afterLater, byIndex, block, firstIndex, started, step}
-use Rattle.search.proofs.Tests.{by-test, by-order}
 use Rattle.search.proofs.Compare.{compare-called, ordered-before, ordered-most, ordered-zero}
 use Rattle.search.specs.Parts.{laterAt}
 use Rattle.search.proofs.Pieces.{front-is, part-is, agree-stands, stands-agree, fails, pieces, pieces-more, count-some, LaterOk, later-ok, agree-rest, rest-agree}

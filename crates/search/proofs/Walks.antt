@@ -7,18 +7,14 @@ use mathlib.Core.List.{List, [], _∷_}
 use lib.Dec.{ltb}
 use lib.ListN.{length}
 use native.Mathlib.Omega.{arith}
-use native.Mathlib.Nat.{mul-le-mul-right, mul-le-mul, add-zero, zero-add, add-assoc}
+use native.Mathlib.Nat.{mul-le-mul-right, mul-le-mul, add-assoc}
 use borrow.Author.Tests.{ltb-true, ltb-false}
+use Rattle.bits.proofs.Below.{by-test}
 use Rattle.pcmpstr.specs.Operand.{count}
 use Rattle.search.specs.Walk.{Step, here, noRoom, onward, Ended, matchAt, nowhere, plus, follow, step, walkFrom, walk, after, countFrom, walkCount, bound}
 use Rattle.search.specs.Cursors.{longestText, longestNeedle}
-use Rattle.search.proofs.Tests.{by-test}
 use Rattle.search.proofs.Pieces.{pieces, stands-agree}
 use Rattle.search.proofs.Steps.{positionsAt, positions-end, positions-stand, StepOk, step-ok, step-past}
-
-pub plus-none : (e : Ended) → plus 0 e ≡ e
-plus-none (matchAt p n) = rw (zero-add n)
-plus-none (nowhere n) = rw (zero-add n)
 
 pub plus-plus : (j k : ℕ) (e : Ended) → plus j (plus k e) ≡ plus (j + k) e
 plus-plus j k (matchAt p n) = rw (add-assoc j k n)
