@@ -61,16 +61,18 @@ any-and zero p v = refl
 any-and (suc n) p v = rw (any-and n p v) (and-over-or (anyBelow n p) (p n) v)
 
 module _ (k : Control) (w : Bool) (e : k .words ≡ w) (x₁ : List ℕ) (l₁ : ℕ) (x₂ : List ℕ) (l₂ : ℕ) (h₁ : l₁ ≤ count w) where
-  pub any-is : k .aggregation ≡ EqualAny → numberOf (count w) (anyOf x₁ l₁ x₂ l₂) ≡ numberOf (count w) (intRes1 (operands k x₁ l₁ x₂ l₂))
+  -- bit j of it
+  pub any-bit : k .aggregation ≡ EqualAny → (j : ℕ) → anyOf x₁ l₁ x₂ l₂ j ≡ intRes1 (operands k x₁ l₁ x₂ l₂) j
   unfolding intRes1 boolRes
-  any-is a =
-      number-same (count w) (anyOf x₁ l₁ x₂ l₂) (intRes1 (operands k x₁ l₁ x₂ l₂))
-      (λ j z.
+  any-bit a j =
       rw (a, e)
       (sym
       (any-cut (count w) l₁ (λ i. override EqualAny (ltb i l₁) (ltb j l₂) (eqb (getD x₂ j 0) (getD x₁ i 0))) h₁ (λ i u v. rw (le-ltb i l₁ u))
       ∙ any-same l₁ _ (λ i. eqb (getD x₂ j 0) (getD x₁ i 0) && ltb j l₂) (λ i u. rw (lt-ltb i l₁ u) (any-valid (ltb j l₂) (eqb (getD x₂ j 0) (getD x₁ i 0))))
-      ∙ any-and l₁ (λ i. eqb (getD x₂ j 0) (getD x₁ i 0)) (ltb j l₂))))
+      ∙ any-and l₁ (λ i. eqb (getD x₂ j 0) (getD x₁ i 0)) (ltb j l₂)))
+
+  pub any-is : k .aggregation ≡ EqualAny → numberOf (count w) (anyOf x₁ l₁ x₂ l₂) ≡ numberOf (count w) (intRes1 (operands k x₁ l₁ x₂ l₂))
+  any-is a = number-same (count w) (anyOf x₁ l₁ x₂ l₂) (intRes1 (operands k x₁ l₁ x₂ l₂)) (λ j z. any-bit a j)
 
   -- the overridden comparison with the bounds 2i and 2i + 1
   abbrev pair : ℕ → ℕ → Bool
@@ -87,16 +89,18 @@ module _ (k : Control) (w : Bool) (e : k .words ≡ w) (x₁ : List ℕ) (l₁ :
       rw (lt-ltb (2 * i) l₁ (omega arith), lt-ltb (2 * i + 1) l₁ (omega arith), eq-eqb (2 * i % 2) 0 (omega arith), ne-eqb ((2 * i + 1) % 2) 0 (omega arith))
       (ranges-valid (ltb j l₂) (leZ (valueOf w (k .signed) (getD x₁ (2 * i) 0)) (valueOf w (k .signed) (getD x₂ j 0))) (leZ (valueOf w (k .signed) (getD x₂ j 0)) (valueOf w (k .signed) (getD x₁ (2 * i + 1) 0))))
 
-  pub ranges-is : k .aggregation ≡ Ranges → numberOf (count w) (rangesOf (valueOf w (k .signed)) x₁ (l₁ / 2) x₂ l₂) ≡ numberOf (count w) (intRes1 (operands k x₁ l₁ x₂ l₂))
+  pub ranges-bit : k .aggregation ≡ Ranges → (j : ℕ) → rangesOf (valueOf w (k .signed)) x₁ (l₁ / 2) x₂ l₂ j ≡ intRes1 (operands k x₁ l₁ x₂ l₂) j
   unfolding intRes1 boolRes
-  ranges-is a =
-      number-same (count w) (rangesOf (valueOf w (k .signed)) x₁ (l₁ / 2) x₂ l₂) (intRes1 (operands k x₁ l₁ x₂ l₂))
-      (λ j z.
+  ranges-bit a j =
       rw (a, e)
       (sym
       (any-cut (count w / 2) (l₁ / 2) (pair j) (count-even w l₁ h₁) (λ i u v. pair-past j i u)
       ∙ any-same (l₁ / 2) (pair j) (λ i. between (valueOf w (k .signed)) (getD x₁ (2 * i) 0) (getD x₁ (2 * i + 1) 0) (getD x₂ j 0) && ltb j l₂) (λ i u. pair-valid j i u)
-      ∙ any-and (l₁ / 2) (λ i. between (valueOf w (k .signed)) (getD x₁ (2 * i) 0) (getD x₁ (2 * i + 1) 0) (getD x₂ j 0)) (ltb j l₂))))
+      ∙ any-and (l₁ / 2) (λ i. between (valueOf w (k .signed)) (getD x₁ (2 * i) 0) (getD x₁ (2 * i + 1) 0) (getD x₂ j 0)) (ltb j l₂)))
+
+  pub ranges-is : k .aggregation ≡ Ranges → numberOf (count w) (rangesOf (valueOf w (k .signed)) x₁ (l₁ / 2) x₂ l₂) ≡ numberOf (count w) (intRes1 (operands k x₁ l₁ x₂ l₂))
+  ranges-is a =
+      number-same (count w) (rangesOf (valueOf w (k .signed)) x₁ (l₁ / 2) x₂ l₂) (intRes1 (operands k x₁ l₁ x₂ l₂)) (λ j z. ranges-bit a j)
 
   pub each-is : k .aggregation ≡ EqualEach → numberOf (count w) (eachOf x₁ l₁ x₂ l₂) ≡ numberOf (count w) (intRes1 (operands k x₁ l₁ x₂ l₂))
   unfolding intRes1 boolRes
