@@ -1,0 +1,114 @@
+// Operands of sixteen bytes, filled from parts of a text, zero past the part's end. Document 01: "a helper fills the sixteen bytes of the
+// operand, zero past the part's end".
+//
+// Public calls: `whole_bytes` and `padded_bytes` for a part in bytes, `whole_words` and `padded_words` for one in words. None asks anything of
+// its argument, and the two of a pair say the same: of a part that is too long the first sixteen bytes, or eight words, are taken. `whole_..` is
+// the quick one where the part is a whole block, `padded_..` where it is shorter.
+ghost use mathlib.Core.Path.{_≡_};
+ghost use mathlib.Core.Bool.{true, false};
+ghost use Prim.Native.Nat.{_/_, _%_, min};
+ghost use Rattle.blocks.specs.Blocks.{operandOf};
+
+// The lesser of two numbers.
+fn lesser(a: usize, b: usize) -> usize
+    ensures { λ r. ⌜ r ≡ min a b ⌝ }
+{
+    if a < b { a } else { b }
+}
+
+// The operand of a part in bytes, by sixteen reads with no test for each byte, which become one load.
+pub fn whole_bytes(part: &[u8]) -> [u8; 16]
+    ensures { λ r. ⌜ r ≡ operandOf false (now (part .entry)) ⌝ }
+{
+    if part.len() < 16 {
+        return padded_bytes(part);
+    }
+    [
+        part[0],
+        part[1],
+        part[2],
+        part[3],
+        part[4],
+        part[5],
+        part[6],
+        part[7],
+        part[8],
+        part[9],
+        part[10],
+        part[11],
+        part[12],
+        part[13],
+        part[14],
+        part[15],
+    ]
+}
+
+// The same operand, filled over zeros as far as the part goes.
+pub fn padded_bytes(part: &[u8]) -> [u8; 16]
+    ensures { λ r. ⌜ r ≡ operandOf false (now (part .entry)) ⌝ }
+{
+    let n = lesser(part.len(), 16);
+    let mut bytes = [0u8; 16];
+    let mut i = 0;
+    while i < n {
+        bytes[i] = part[i];
+        i += 1;
+    }
+    bytes
+}
+
+// The low byte of a word, and the high one.
+fn low(word: u16) -> u8
+    ensures { λ r. ⌜ r ≡ word % 256 ⌝ }
+{
+    (word % 256) as u8
+}
+
+fn high(word: u16) -> u8
+    ensures { λ r. ⌜ r ≡ word / 256 ⌝ }
+{
+    (word / 256) as u8
+}
+
+// The operand of a part in words, the low byte of each first, with no test for each word.
+pub fn whole_words(part: &[u16]) -> [u8; 16]
+    ensures { λ r. ⌜ r ≡ operandOf true (now (part .entry)) ⌝ }
+{
+    if part.len() < 8 {
+        return padded_words(part);
+    }
+    [
+        low(part[0]),
+        high(part[0]),
+        low(part[1]),
+        high(part[1]),
+        low(part[2]),
+        high(part[2]),
+        low(part[3]),
+        high(part[3]),
+        low(part[4]),
+        high(part[4]),
+        low(part[5]),
+        high(part[5]),
+        low(part[6]),
+        high(part[6]),
+        low(part[7]),
+        high(part[7]),
+    ]
+}
+
+// The same operand, filled over zeros as far as the part goes.
+pub fn padded_words(part: &[u16]) -> [u8; 16]
+    ensures { λ r. ⌜ r ≡ operandOf true (now (part .entry)) ⌝ }
+{
+    let n = lesser(part.len(), 8);
+    let mut bytes = [0u8; 16];
+    let mut i = 0;
+    while i < n {
+        let at = 2 * i;
+        bytes[at] = low(part[i]);
+        bytes[at + 1] = high(part[i]);
+        i += 1;
+    }
+    bytes
+}
