@@ -1,10 +1,18 @@
--- The operand of sixteen bytes for a part of a text. `words` is the width: bytes where it is false, words where it is true.
-use Prim.Native.Nat.{ℕ, _/_, _%_}
+-- A text and its parts, as the unit takes them. `words` is the width: bytes where it is false, words where it is true.
+use Prim.Native.Nat.{ℕ, _+_, _/_, _%_}
 use mathlib.Core.Bool.{Bool, true, false, cond}
 use mathlib.Core.List.{List}
 use lib.Dec.{eqb}
-use lib.ListN.{getD}
+use lib.ListN.{length, getD}
+use lib.IntN.{pos}
 use Rattle.bits.specs.Bits.{tabulate}
+use Rattle.pcmpstr.specs.Calls.{PCMPESTRI}
+
+-- the most elements of a text
+abbrev pub longestText : ℕ
+longestText = 1048576
+
+-- ---- the operand of a part
 
 -- byte i of the operand: the part's elements, a word's low byte first, and zero past the part's end
 abbrev pub operandByte : Bool → List ℕ → ℕ → ℕ
@@ -13,3 +21,13 @@ operandByte true x i = cond (eqb (i % 2) 0) (getD x (i / 2) 0 % 256) (getD x (i 
 
 unfoldable pub operandOf : Bool → List ℕ → List ℕ
 operandOf words x = tabulate 16 (operandByte words x)
+
+-- ---- one compare
+
+-- A compare is a call of the unit: the index that it answers for two parts, each at its own length. c is the control in bytes.
+unfoldable pub compareIndex : Bool → ℕ → List ℕ → List ℕ → ℕ
+compareIndex words c x y = PCMPESTRI (operandOf words x) (pos (length x)) (operandOf words y) (pos (length y)) (c + cond words 1 0) .index
+
+-- equal each, negated, least: where two parts first differ
+abbrev pub eachNegated : ℕ
+eachNegated = 0x18

@@ -9,8 +9,13 @@ ghost use mathlib.Core.Bool.{true, false};
 ghost use Prim.Native.Nat.{_/_, _%_, min};
 ghost use Rattle.blocks.specs.Blocks.{operandOf};
 
+// The most elements of a text. Refusal number 2 of document 01: a text has more.
+pub const LONGEST_TEXT: usize = 1048576;
+
+pub const TEXT_REFUSED: u32 = 2;
+
 // The lesser of two numbers.
-fn lesser(a: usize, b: usize) -> usize
+pub fn lesser(a: usize, b: usize) -> usize
     ensures { λ r. ⌜ r ≡ min a b ⌝ }
 {
     if a < b { a } else { b }

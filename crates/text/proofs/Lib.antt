@@ -1,2 +1,5 @@
 pub mod Fronts
 pub mod Order
+pub mod Walks
+pub mod Refusals
+pub mod Indexes

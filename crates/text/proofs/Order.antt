@@ -44,6 +44,16 @@ less-irrefl : (a : ℤ) → ltZ a a ≡ false
 less-irrefl (pos a) = le-ltb a a (omega arith)
 less-irrefl (negsuc a) = le-ltb a a (omega arith)
 
+-- the sign of two numbers, from the tests
+pub sign-less : (a b v w : ℤ) → a ≡ v → b ≡ w → ltZ a b ≡ true → negsuc 0 ≡ sign v w
+sign-less a b v w e f h = rw (sym e, sym f, h)
+
+pub sign-more : (a b v w : ℤ) → a ≡ v → b ≡ w → ltZ a b ≡ false → ltZ b a ≡ true → pos 1 ≡ sign v w
+sign-more a b v w e f h k = rw (sym e, sym f, h, k)
+
+pub sign-equal : (a b v w : ℤ) → a ≡ v → b ≡ w → ltZ a b ≡ false → ltZ b a ≡ false → pos 0 ≡ sign v w
+sign-equal a b v w e f h k = rw (sym e, sym f, h, k)
+
 sign-swap : (a b : ℤ) → sign b a ≡ negℤ (sign a b)
 sign-swap a b =
     by-test (ltZ a b) (λ e. rw (e, less-not a b e)) (λ e. rw e (by-test (ltZ b a) (λ f. rw f) (λ f. rw f)))

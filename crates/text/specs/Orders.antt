@@ -11,7 +11,7 @@ use lib.Signed.{ltZ, leZ}
 use Rattle.bits.specs.Bits.{leastBelow}
 use Rattle.pcmpstr.specs.Operand.{bitsOf, valueOf}
 use Rattle.text.specs.declared.OrderAnswer.{OrderAnswer}
-use Rattle.text.specs.Spans.{longestText}
+use Rattle.blocks.specs.Blocks.{longestText}
 
 -- the first place where two texts differ, or the end of the shorter
 unfoldable pub difference : List ℕ → List ℕ → ℕ

@@ -10,6 +10,7 @@ use lib.IntN.{ℤ}
 use lib.Signed.{leZ}
 use Rattle.bits.specs.Bits.{anyBelow, leastBelow}
 use Rattle.pcmpstr.specs.Operand.{count, valueOf}
+use Rattle.blocks.specs.Blocks.{longestText}
 
 -- x is an element of the set
 abbrev pub inSet : List ℕ → ℕ → Bool
@@ -36,10 +37,6 @@ pub record LongestFront (belongs : ℕ → Bool) (text s : List ℕ) : Type 0 wh
   pub none-longer : (k : ℕ) → k ≤ length text → ((j : ℕ) → j < k → belongs (getD text j 0) ≡ true) → k ≤ length s
 
 -- ---- the calls
-
--- the most elements of a text
-abbrev pub longestText : ℕ
-longestText = 1048576
 
 -- the number that refuses a text of n elements with a set, or with a list of bounds, of m; or 0
 unfoldable pub setRefusal : Bool → ℕ → ℕ → ℕ

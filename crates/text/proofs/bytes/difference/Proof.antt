@@ -1,0 +1,105 @@
+-- `text::bytes::difference` meets its contract. The invariant: the texts do not differ before i. Assumes nothing.
+use Prim.Native.Nat.{ℕ, _+_, _-_, _≤_}
+use mathlib.Core.Path.{_≡_, refl, sym, _∙_}
+use mathlib.Core.Bool.{false}
+use lib.ListN.{length, getD, length-take, length-drop}
+use native.Mathlib.Omega.{arith}
+use borrow.Author.Needs.{needs}
+use Rattle.bits.specs.Bits.{leastBelow}
+use Rattle.text.specs.Orders.{difference}
+use Rattle.text.proofs.Walks.{clear-to-start}
+use Rattle.text.proofs.Indexes.{differAt, difference-found, difference-goes-on, difference-none}
+use Rattle.text.proofs.bytes.difference.Statement.{statement}
+use Rattle.text.proofs.bytes.difference.Tie as tie
+
+abbrev Inv-loop : tie.InvT-loop
+Inv-loop first second n i₀ i = (i ≤ n) × (leastBelow i (differAt first second) ≡ i)
+
+abbrev μ-loop : tie.MeasureT-loop
+μ-loop first second n i₀ i = n - i
+
+lesser-requires : tie.Need-lesser-requires Inv-loop μ-loop
+lesser-requires c κs = tt
+
+loop-holds : tie.Need-loop-holds Inv-loop μ-loop
+loop-holds c =
+    let a = c .before .before .before .args in
+    (omega arith, clear-to-start 16 (differAt (a .first .now) (a .second .now)) false)
+
+add-lesser : tie.Need-add-lesser Inv-loop μ-loop
+add-lesser c = omega (arith, c .before .before .lesser .ensures)
+
+lesser-requires-2 : tie.Need-lesser-requires-2 Inv-loop μ-loop
+lesser-requires-2 c κs = tt
+
+sub-differ : tie.Need-sub-differ Inv-loop μ-loop
+sub-differ c = omega (arith, c .lesser2 .ensures)
+
+part-differ-start : tie.Need-part-differ-start Inv-loop μ-loop
+part-differ-start c = omega (arith, c .lesser2 .ensures)
+
+part-differ-end : tie.Need-part-differ-end Inv-loop μ-loop
+part-differ-end c = omega (arith, c .lesser2 .ensures, c .before .before .before .lesser .ensures)
+
+sub-differ-2 : tie.Need-sub-differ-2 Inv-loop μ-loop
+sub-differ-2 c = omega (arith, c .before .lesser2 .ensures)
+
+part-differ-start-2 : tie.Need-part-differ-start-2 Inv-loop μ-loop
+part-differ-start-2 c = omega (arith, c .before .lesser2 .ensures)
+
+part-differ-end-2 : tie.Need-part-differ-end-2 Inv-loop μ-loop
+part-differ-end-2 c = omega (arith, c .before .lesser2 .ensures, c .before .before .before .before .lesser .ensures)
+
+differ-requires : tie.Need-differ-requires Inv-loop μ-loop
+differ-requires c κs = rw (length-take, length-drop) (omega (arith, c .before .before .lesser2 .ensures), omega (arith, c .before .before .lesser2 .ensures, c .before .before .before .before .before .lesser .ensures))
+
+add-result : tie.Need-add-result Inv-loop μ-loop
+add-result c = omega (arith, c .before .before .before .before .before .before .before .lesser .ensures)
+
+returns : tie.Need-returns Inv-loop μ-loop
+returns c =
+    let l = c .before .before .before .before .before .before in
+    let a = l .before .before .before .before .args in
+    let n = l .before .lesser .ensures in
+    let e = c .before .before .before .before .lesser2 in
+    difference-found (a .first .now) (a .second .now) false (l .loop .i) (e .result) (c .before .differ .result) (rw n at (e .ensures)) (omega (arith, n)) (l .loop .inv .1) (c .before .differ .ensures) (omega arith)
+
+loop-less : tie.Need-loop-less Inv-loop μ-loop
+loop-less c = omega (arith, c .before .before .before .before .lesser2 .ensures)
+
+loop-again : tie.Need-loop-again Inv-loop μ-loop
+loop-again c =
+    let l = c .before .before .before .before .before .before in
+    let a = l .before .before .before .before .args in
+    let n = l .before .lesser .ensures in
+    let e = c .before .before .before .before .lesser2 in
+    (omega (arith, e .ensures), difference-goes-on (a .first .now) (a .second .now) false (l .loop .i) (e .result) (c .before .differ .result) (rw n at (e .ensures)) (omega (arith, n)) (l .loop .inv .1) (c .before .differ .ensures) (omega arith))
+
+returns-2 : tie.Need-returns-2 Inv-loop μ-loop
+returns-2 c =
+    let l = c .before in
+    let a = l .before .before .before .before .args in
+    difference-none (a .first .now) (a .second .now) (l .loop .i) (l .before .lesser .result) (l .before .lesser .ensures) (omega arith) (l .loop .inv .1)
+
+pub difference-spec : {M : Type 1} → statement M
+difference-spec =
+    tie.close
+    (tie.spec
+    Inv-loop
+    μ-loop
+    lesser-requires
+    loop-holds
+    add-lesser
+    lesser-requires-2
+    sub-differ
+    part-differ-start
+    part-differ-end
+    sub-differ-2
+    part-differ-start-2
+    part-differ-end-2
+    differ-requires
+    add-result
+    returns
+    loop-less
+    loop-again
+    returns-2)

@@ -1,0 +1,159 @@
+// Runs and order in bytes.
+use crate::OrderAnswer;
+ghost use mathlib.Core.Path.{_≡_};
+ghost use mathlib.Core.Bool.{cond, false};
+ghost use Prim.Native.Nat.{_≤_};
+ghost use lib.ListN.{length};
+ghost use lib.IntN.{pos};
+ghost use Rattle.blocks.specs.Blocks.{compareIndex, eachNegated, longestText, operandOf};
+ghost use Rattle.pcmpstr.specs.Calls.{PCMPESTRI};
+ghost use Rattle.text.specs.Spans.{boundsRefusal, rangeSpan, setRefusal, setSpan, spanLength};
+ghost use Rattle.text.specs.Orders.{difference, isSecond, lesserText, order, orderAnswer, orderRefusal};
+ghost use Rattle.text.specs.Parts.{belongs};
+
+// How many bytes at the front of a block belong: the first that does not is what the unit finds. `list` is the operand of a set or of bounds.
+fn front(list: [u8; 16], l: i32, block: &[u8], control: u8) -> usize
+    requires { ⌜ length (now block) ≤ 16 ⌝ }
+    ensures { λ r. ⌜ r ≡ PCMPESTRI list l (operandOf false (now (block .entry))) (pos (length (now (block .entry)))) control .index ⌝ }
+{
+    let l2 = block.len() as i32;
+    let answer = pcmpstr::pcmpestri(list, l, blocks::padded_bytes(block), l2, control);
+    answer.index as usize
+}
+
+// How long the run at the front of a text is. It goes by blocks, up to the first that does not belong as a whole.
+fn length_of_span(text: &[u8], list: &[u8], ranges: bool, signed: bool) -> usize
+    requires { ⌜ (length (now text) ≤ longestText) × (length (now list) ≤ 16) ⌝ }
+    ensures { λ r. ⌜ r ≡ spanLength (belongs false ranges signed (now (list .entry))) (now (text .entry)) ⌝ }
+{
+    let n = text.len();
+    let operand = blocks::padded_bytes(list);
+    let l = list.len() as i32;
+    let control = crate::span_control(ranges, signed);
+    let mut i = 0;
+    while i < n {
+        let e = blocks::lesser(i + 16, n);
+        let k = front(operand, l, &text[i..e], control);
+        if k < 16 {
+            return i + k;
+        }
+        i = e;
+    }
+    i
+}
+
+// The number that refuses `span` with these arguments, or 0.
+pub fn span_refusal(text: &[u8], set: &[u8]) -> u32
+    ensures { λ r. ⌜ r ≡ setRefusal false (length (now (text .entry))) (length (now (set .entry))) ⌝ }
+{
+    crate::set_refusal(false, text.len(), set.len())
+}
+
+// The longest front of a text whose bytes are all in a set (document 01: the leading run). It is that part of the text itself: it begins where
+// the text begins.
+pub fn span<'a>(text: &'a [u8], set: &[u8]) -> &'a [u8]
+    ensures { λ r. ⌜ (r .ptr ≡ text .entry .ptr) × (now r ≡ setSpan false (now (text .entry)) (now (set .entry))) ⌝ }
+{
+    if span_refusal(text, set) > 0 {
+        return &text[..0];
+    }
+    let k = length_of_span(text, set, false, false);
+    &text[..k]
+}
+
+// The number that refuses `range_span` with these arguments, or 0.
+pub fn range_span_refusal(text: &[u8], bounds: &[u8], _signed: bool) -> u32
+    ensures { λ r. ⌜ r ≡ boundsRefusal false (length (now (text .entry))) (length (now (bounds .entry))) ⌝ }
+{
+    crate::bounds_refusal(false, text.len(), bounds.len())
+}
+
+// The longest front of a text whose bytes each lie in one of some ranges, given as a list of low and high bounds in pairs.
+pub fn range_span<'a>(text: &'a [u8], bounds: &[u8], signed: bool) -> &'a [u8]
+    ensures { λ r. ⌜ (r .ptr ≡ text .entry .ptr) × (now r ≡ rangeSpan false signed (now (text .entry)) (now (bounds .entry))) ⌝ }
+{
+    if range_span_refusal(text, bounds, signed) > 0 {
+        return &text[..0];
+    }
+    let k = length_of_span(text, bounds, true, signed);
+    &text[..k]
+}
+
+// The first place where two parts of one length differ, or 16.
+fn differ(x: &[u8], y: &[u8]) -> usize
+    requires { ⌜ (length (now x) ≤ 16) × (length (now y) ≡ length (now x)) ⌝ }
+    ensures { λ r. ⌜ r ≡ compareIndex false eachNegated (now (x .entry)) (now (y .entry)) ⌝ }
+{
+    if x.len() == 16 {
+        return pcmpstr::pcmpestri_18(blocks::whole_bytes(x), 16, blocks::whole_bytes(y), 16) as usize;
+    }
+    let l = x.len();
+    pcmpstr::pcmpestri_18(blocks::padded_bytes(x), l, blocks::padded_bytes(y), l) as usize
+}
+
+// The first place where two texts differ, or the end of the shorter. Equal stretches go by in blocks.
+fn difference(first: &[u8], second: &[u8]) -> usize
+    requires { ⌜ (length (now first) ≤ longestText) × (length (now second) ≤ longestText) ⌝ }
+    ensures { λ r. ⌜ r ≡ difference (now (first .entry)) (now (second .entry)) ⌝ }
+{
+    let n = blocks::lesser(first.len(), second.len());
+    let mut i = 0;
+    while i < n {
+        let e = blocks::lesser(i + 16, n);
+        let k = differ(&first[i..e], &second[i..e]);
+        if k < 16 {
+            return i + k;
+        }
+        i = e;
+    }
+    i
+}
+
+// The order of two texts.
+fn order(first: &[u8], second: &[u8], signed: bool) -> i32
+    requires { ⌜ (length (now first) ≤ longestText) × (length (now second) ≤ longestText) ⌝ }
+    ensures { λ r. ⌜ r ≡ order false signed (now (first .entry)) (now (second .entry)) ⌝ }
+{
+    let k = difference(first, second);
+    if k < blocks::lesser(first.len(), second.len()) {
+        return crate::order_of_elements(false, signed, first[k] as u16, second[k] as u16);
+    }
+    crate::order_of_lengths(first.len(), second.len())
+}
+
+// The order of two texts, or the number that refuses them.
+pub fn compare(first: &[u8], second: &[u8], signed: bool) -> OrderAnswer
+    ensures { λ r. ⌜ r ≡ orderAnswer false signed (now (first .entry)) (now (second .entry)) ⌝ }
+{
+    let number = crate::order_refusal(first.len(), second.len());
+    if number > 0 {
+        return OrderAnswer {
+            refusal: number,
+            order: 0,
+        };
+    }
+    OrderAnswer {
+        refusal: 0,
+        order: order(first, second, signed),
+    }
+}
+
+// The number that refuses `lesser` with these arguments, or 0.
+pub fn lesser_refusal(first: &[u8], second: &[u8], _signed: bool) -> u32
+    ensures { λ r. ⌜ r ≡ orderRefusal (length (now (first .entry))) (length (now (second .entry))) ⌝ }
+{
+    crate::order_refusal(first.len(), second.len())
+}
+
+// The smaller of two texts itself, the first when they are equal. Refused, the empty front of the first.
+pub fn lesser<'a>(first: &'a [u8], second: &'a [u8], signed: bool) -> &'a [u8]
+    ensures { λ r. ⌜ (r .ptr ≡ cond (isSecond false signed (now (first .entry)) (now (second .entry))) (second .entry .ptr) (first .entry .ptr)) × (now r ≡ lesserText false signed (now (first .entry)) (now (second .entry))) ⌝ }
+{
+    if lesser_refusal(first, second, signed) > 0 {
+        return &first[..0];
+    }
+    if order(first, second, signed) > 0 {
+        return second;
+    }
+    first
+}
