@@ -16,7 +16,7 @@ module _ (belongs : ℕ → Bool) (text : List ℕ) where
   abbrev outside : ℕ → Bool
   outside j = not (belongs (getD text j 0))
 
-  within : spanLength belongs text ≤ length text
+  pub within : spanLength belongs text ≤ length text
   unfolding spanLength
   within = least-within (length text) outside
 

@@ -63,6 +63,11 @@ module _ (list block : List ℕ) where
   span-index false true true h g = parts-index (controlOf 0x16) list block h g ∙ (λ t. leastBelow 16 (λ j. ranges-outside (controlOf 0x16) false refl h refl j t))
   span-index true true true h g = parts-index (controlOf 0x17) list block h g ∙ (λ t. leastBelow 8 (λ j. ranges-outside (controlOf 0x17) true refl h refl j t))
 
+pub control-small : (ranges signed : Bool) → spanControl ranges signed < 32
+control-small false signed = omega arith
+control-small true false = omega arith
+control-small true true = omega arith
+
 -- the compare as code makes it
 pub span-called : (words ranges signed : Bool) (list block o₁ o₂ : List ℕ) (z₁ z₂ : ℤ) (c : ℕ) → o₁ ≡ operandOf words list → z₁ ≡ pos (length list) → o₂ ≡ operandOf words block → z₂ ≡ pos (length block) → c ≡ spanControl ranges signed + cond words 1 0 → PCMPESTRI o₁ z₁ o₂ z₂ c .index ≡ compareIndex words (spanControl ranges signed) list block
 unfolding compareIndex

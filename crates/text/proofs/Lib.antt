@@ -1,5 +1,5 @@
 pub mod Fronts
 pub mod Order
 pub mod Walks
-pub mod Refusals
+pub mod Calls
 pub mod Indexes

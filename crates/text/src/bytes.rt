@@ -85,7 +85,12 @@ fn differ(x: &[u8], y: &[u8]) -> usize
     ensures { λ r. ⌜ r ≡ compareIndex false eachNegated (now (x .entry)) (now (y .entry)) ⌝ }
 {
     if x.len() == 16 {
-        return pcmpstr::pcmpestri_18(blocks::whole_bytes(x), 16, blocks::whole_bytes(y), 16) as usize;
+        return pcmpstr::pcmpestri_18(
+            blocks::whole_bytes(x),
+            16,
+            blocks::whole_bytes(y),
+            16,
+        ) as usize;
     }
     let l = x.len();
     pcmpstr::pcmpestri_18(blocks::padded_bytes(x), l, blocks::padded_bytes(y), l) as usize

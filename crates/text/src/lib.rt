@@ -99,11 +99,7 @@ fn value(words: bool, signed: bool, x: u16) -> i32
             (x as i32) - 65536
         }
     } else {
-        if x < 128 {
-            x as i32
-        } else {
-            (x as i32) - 256
-        }
+        if x < 128 { x as i32 } else { (x as i32) - 256 }
     }
 }
 

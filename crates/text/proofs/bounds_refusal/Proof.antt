@@ -4,7 +4,7 @@ use native.Mathlib.Omega.{arith}
 use borrow.Author.Needs.{needs}
 use borrow.Author.Tests.{eq-eqb, ne-eqb}
 use Rattle.text.specs.Spans.{setRefusal}
-use Rattle.text.proofs.Refusals.{bounds-by-set}
+use Rattle.text.proofs.Calls.{bounds-by-set}
 use Rattle.text.proofs.bounds_refusal.Statement.{statement}
 use Rattle.text.proofs.bounds_refusal.Tie as tie
 

@@ -1,88 +1,91 @@
--- `text::words::difference` meets its contract. Assumes nothing.
+-- `text::words::difference` meets its contract. The invariant: the texts do not differ before i. Assumes nothing.
+use Prim.Native.Nat.{ℕ, _+_, _-_, _≤_}
+use mathlib.Core.Path.{_≡_, refl, sym, _∙_}
+use mathlib.Core.Bool.{true, false}
+use lib.ListN.{length, getD, length-take, length-drop}
+use native.Mathlib.Omega.{arith}
+use borrow.Author.Needs.{needs}
+use Rattle.bits.specs.Bits.{leastBelow}
+use Rattle.text.specs.Orders.{difference}
+use Rattle.text.proofs.Walks.{clear-to-start}
+use Rattle.text.proofs.Indexes.{differAt, difference-found, difference-goes-on, difference-none}
 use Rattle.text.proofs.words.difference.Statement.{statement}
 use Rattle.text.proofs.words.difference.Tie as tie
-use Rattle.text.proofs.words.difference.Reads as reads
-use Rattle.text.proofs.words.difference.Lts as lts
-use Rattle.blocks.proofs.lesser.Reads as lesser-reads
-use Rattle.text.proofs.words.differ.Reads as differ-reads
 
 abbrev Inv-loop : tie.InvT-loop
-Inv-loop first second n i₀ i = ?
+Inv-loop first second n i₀ i = (i ≤ n) × (leastBelow i (differAt first second) ≡ i)
 
 abbrev μ-loop : tie.MeasureT-loop
-μ-loop first second n i₀ i = ?
+μ-loop first second n i₀ i = n - i
 
--- src/words.rt:99:9
 lesser-requires : tie.Need-lesser-requires Inv-loop μ-loop
-lesser-requires c κs = ?
+lesser-requires c κs = tt
 
--- src/words.rt:101:5
 loop-holds : tie.Need-loop-holds Inv-loop μ-loop
-loop-holds c = ?
+loop-holds c =
+    let a = c .before .before .before .args in
+    (omega arith, clear-to-start 8 (differAt (a .first .now) (a .second .now)) false)
 
--- src/words.rt:102:32
 add-lesser : tie.Need-add-lesser Inv-loop μ-loop
-add-lesser c = ?
+add-lesser c = omega (arith, c .before .before .lesser .ensures)
 
--- src/words.rt:102:13
 lesser-requires-2 : tie.Need-lesser-requires-2 Inv-loop μ-loop
-lesser-requires-2 c κs = ?
+lesser-requires-2 c κs = tt
 
--- src/words.rt:103:24
 mul-differ : tie.Need-mul-differ Inv-loop μ-loop
-mul-differ c = ?
+mul-differ c = omega arith
 
--- src/words.rt:103:24
 sub-differ : tie.Need-sub-differ Inv-loop μ-loop
-sub-differ c = ?
+sub-differ c = omega (arith, c .lesser2 .ensures)
 
--- src/words.rt:103:24
 part-differ-start : tie.Need-part-differ-start Inv-loop μ-loop
-part-differ-start c = ?
+part-differ-start c = omega (arith, c .lesser2 .ensures)
 
--- src/words.rt:103:24
 part-differ-end : tie.Need-part-differ-end Inv-loop μ-loop
-part-differ-end c = ?
+part-differ-end c = omega (arith, c .lesser2 .ensures, c .before .before .before .lesser .ensures)
 
--- src/words.rt:103:38
 mul-differ-2 : tie.Need-mul-differ-2 Inv-loop μ-loop
-mul-differ-2 c = ?
+mul-differ-2 c = omega arith
 
--- src/words.rt:103:38
 sub-differ-2 : tie.Need-sub-differ-2 Inv-loop μ-loop
-sub-differ-2 c = ?
+sub-differ-2 c = omega (arith, c .before .lesser2 .ensures)
 
--- src/words.rt:103:38
 part-differ-start-2 : tie.Need-part-differ-start-2 Inv-loop μ-loop
-part-differ-start-2 c = ?
+part-differ-start-2 c = omega (arith, c .before .lesser2 .ensures)
 
--- src/words.rt:103:38
 part-differ-end-2 : tie.Need-part-differ-end-2 Inv-loop μ-loop
-part-differ-end-2 c = ?
+part-differ-end-2 c = omega (arith, c .before .lesser2 .ensures, c .before .before .before .before .lesser .ensures)
 
--- src/words.rt:103:13
 differ-requires : tie.Need-differ-requires Inv-loop μ-loop
-differ-requires c κs = ?
+differ-requires c κs = rw (length-take, length-drop) (omega (arith, c .before .before .lesser2 .ensures), omega (arith, c .before .before .lesser2 .ensures, c .before .before .before .before .before .lesser .ensures))
 
--- src/words.rt:105:20
 add-result : tie.Need-add-result Inv-loop μ-loop
-add-result c = ?
+add-result c = omega (arith, c .before .before .before .before .before .before .before .lesser .ensures)
 
--- src/words.rt:105:13
 returns : tie.Need-returns Inv-loop μ-loop
-returns c = ?
+returns c =
+    let l = c .before .before .before .before .before .before in
+    let a = l .before .before .before .before .args in
+    let n = l .before .lesser .ensures in
+    let e = c .before .before .before .before .lesser2 in
+    difference-found (a .first .now) (a .second .now) true (l .loop .i) (e .result) (c .before .differ .result) (rw n at (e .ensures)) (omega (arith, n)) (l .loop .inv .1) (c .before .differ .ensures) (omega arith)
 
--- src/words.rt:101:5
 loop-less : tie.Need-loop-less Inv-loop μ-loop
-loop-less c = ?
+loop-less c = omega (arith, c .before .before .before .before .lesser2 .ensures)
 
--- src/words.rt:101:5
 loop-again : tie.Need-loop-again Inv-loop μ-loop
-loop-again c = ?
+loop-again c =
+    let l = c .before .before .before .before .before .before in
+    let a = l .before .before .before .before .args in
+    let n = l .before .lesser .ensures in
+    let e = c .before .before .before .before .lesser2 in
+    (omega (arith, e .ensures), difference-goes-on (a .first .now) (a .second .now) true (l .loop .i) (e .result) (c .before .differ .result) (rw n at (e .ensures)) (omega (arith, n)) (l .loop .inv .1) (c .before .differ .ensures) (omega arith))
 
--- src/words.rt:95:1
 returns-2 : tie.Need-returns-2 Inv-loop μ-loop
-returns-2 c = ?
+returns-2 c =
+    let l = c .before in
+    let a = l .before .before .before .before .args in
+    difference-none (a .first .now) (a .second .now) (l .loop .i) (l .before .lesser .result) (l .before .lesser .ensures) (omega arith) (l .loop .inv .1)
 
 pub difference-spec : {M : Type 1} → statement M
 difference-spec =

@@ -1,31 +1,35 @@
--- `text::words::front` meets its contract. Assumes nothing.
+-- `text::words::front` meets its contract: the operand is the block's, and its length fits 32 bits. Assumes nothing.
+use mathlib.Core.Path.{_≡_, ap, _∙_}
+use lib.ListN.{length}
+use lib.IntN.{pos}
+use mir.Syntax.{w32}
+use mir.ValLaws.{toZ-pos, toZ-ofZ}
+use native.Mathlib.Omega.{arith}
 use borrow.Author.Needs.{needs}
+use Rattle.pcmpstr.specs.declared.IndexAnswer.{IndexAnswer}
+use Rattle.pcmpstr.specs.Calls.{PCMPESTRI}
 use Rattle.text.proofs.words.front.Statement.{statement}
 use Rattle.text.proofs.words.front.Tie as tie
-use Rattle.text.proofs.words.front.Reads as reads
-use Rattle.text.proofs.words.front.Lts as lts
-use Rattle.blocks.proofs.padded_words.Reads as padded-words-reads
-use Rattle.pcmpstr.proofs.pcmpestri.Reads as pcmpestri-reads
 
--- src/words.rt:19:14
 cast-l2 : tie.Need-cast-l2
 cast-l2 c = search needs
 
--- src/words.rt:20:46
 padded-words-requires : tie.Need-padded-words-requires
 padded-words-requires c κs = search needs
 
--- src/words.rt:20:9
 pcmpestri-requires : tie.Need-pcmpestri-requires
 pcmpestri-requires c κs = search needs
 
--- src/words.rt:21:5
 cast-result : tie.Need-cast-result
 cast-result c = search needs
 
--- src/words.rt:15:1
 returns : tie.Need-returns
-returns c = ?
+returns c =
+    let s = c .before .before .before .before in
+    let l = toZ-ofZ w32 (s .args .l) (s .fits .l) in
+    let n = toZ-pos w32 (length (s .args .block .now)) (omega arith) in
+    let o = c .before .before .padded-words .ensures in
+    ap (λ (r : IndexAnswer). r .index) (c .before .pcmpestri .ensures) ∙ (λ t. PCMPESTRI (s .args .list) (l t) (o t) (n t) (s .args .control) .index)
 
 pub front-spec : {M : Type 1} → statement M
 front-spec =

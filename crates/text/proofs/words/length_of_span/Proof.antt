@@ -1,86 +1,88 @@
--- `text::words::length_of_span` meets its contract. Assumes nothing.
+-- `text::words::length_of_span` meets its contract. The invariant: no element before i fails to belong. Assumes nothing.
+use Prim.Native.Nat.{ℕ, _+_, _-_, _≤_}
+use mathlib.Core.Path.{_≡_, refl, sym, _∙_}
+use mathlib.Core.Bool.{true}
+use lib.ListN.{length, getD, length-take, length-drop}
+use mir.Syntax.{w32}
+use mir.ValLaws.{toZ-pos}
+use native.Mathlib.Omega.{arith}
+use borrow.Author.Needs.{needs}
+use Rattle.bits.specs.Bits.{leastBelow}
+use Rattle.text.specs.Spans.{spanLength}
+use Rattle.text.proofs.Walks.{clear-to-start}
+use Rattle.text.proofs.Indexes.{control-small, outsideAt, span-called, span-ends, span-goes-on, span-whole}
 use Rattle.text.proofs.words.length_of_span.Statement.{statement}
 use Rattle.text.proofs.words.length_of_span.Tie as tie
-use Rattle.text.proofs.words.length_of_span.Reads as reads
-use Rattle.text.proofs.words.length_of_span.Lts as lts
-use Rattle.blocks.proofs.lesser.Reads as lesser-reads
-use Rattle.blocks.proofs.padded_words.Reads as padded-words-reads
-use Rattle.text.proofs.span_control.Reads as span-control-reads
-use Rattle.text.proofs.words.front.Reads as front-reads
 
 abbrev Inv-loop : tie.InvT-loop
-Inv-loop text list ranges signed n operand l control i₀ i = ?
+Inv-loop text list ranges signed n operand l control i₀ i = (i ≤ length text) × (leastBelow i (outsideAt true ranges signed list text) ≡ i)
 
 abbrev μ-loop : tie.MeasureT-loop
-μ-loop text list ranges signed n operand l control i₀ i = ?
+μ-loop text list ranges signed n operand l control i₀ i = length text - i
 
--- src/words.rt:30:9
 padded-words-requires : tie.Need-padded-words-requires Inv-loop μ-loop
-padded-words-requires c κs = ?
+padded-words-requires c κs = tt
 
--- src/words.rt:31:13
 cast-l : tie.Need-cast-l Inv-loop μ-loop
-cast-l c = ?
+cast-l c = record { sfits = omega arith }
 
--- src/words.rt:32:19
 span-control-requires : tie.Need-span-control-requires Inv-loop μ-loop
-span-control-requires c κs = ?
+span-control-requires c κs = tt
 
--- src/words.rt:32:19
 add-control : tie.Need-add-control Inv-loop μ-loop
-add-control c = ?
+add-control c =
+    let a = c .before .before .before .before .args in
+    omega (arith, c .span-control .ensures, control-small (a .ranges) (a .signed))
 
--- src/words.rt:34:5
 loop-holds : tie.Need-loop-holds Inv-loop μ-loop
-loop-holds c = ?
+loop-holds c =
+    let a = c .before .before .before .before .args in
+    (omega arith, clear-to-start 8 (outsideAt true (a .ranges) (a .signed) (a .list .now) (a .text .now)) true)
 
--- src/words.rt:35:32
 add-lesser : tie.Need-add-lesser Inv-loop μ-loop
-add-lesser c = ?
+add-lesser c = omega arith
 
--- src/words.rt:35:13
 lesser-requires : tie.Need-lesser-requires Inv-loop μ-loop
-lesser-requires c κs = ?
+lesser-requires c κs = tt
 
--- src/words.rt:36:35
 mul-front : tie.Need-mul-front Inv-loop μ-loop
-mul-front c = ?
+mul-front c = omega arith
 
--- src/words.rt:36:35
 sub-front : tie.Need-sub-front Inv-loop μ-loop
-sub-front c = ?
+sub-front c = omega (arith, c .lesser .ensures)
 
--- src/words.rt:36:35
 part-front-start : tie.Need-part-front-start Inv-loop μ-loop
-part-front-start c = ?
+part-front-start c = omega (arith, c .lesser .ensures)
 
--- src/words.rt:36:35
 part-front-end : tie.Need-part-front-end Inv-loop μ-loop
-part-front-end c = ?
+part-front-end c = omega (arith, c .lesser .ensures)
 
--- src/words.rt:36:13
 front-requires : tie.Need-front-requires Inv-loop μ-loop
-front-requires c κs = ?
+front-requires c κs = rw (length-take, length-drop) (omega (arith, c .before .lesser .ensures))
 
--- src/words.rt:38:20
 add-result : tie.Need-add-result Inv-loop μ-loop
-add-result c = ?
+add-result c = omega arith
 
--- src/words.rt:38:13
 returns : tie.Need-returns Inv-loop μ-loop
-returns c = ?
+returns c =
+    let l = c .before .before .before .before .before in
+    let a = l .before .before .before .before .before .args in
+    span-ends true (a .ranges) (a .signed) (a .list .now) (a .text .now) (l .loop .i) (c .before .before .before .lesser .result) (c .before .front .result) (omega arith) (c .before .before .before .lesser .ensures) (omega arith) (l .loop .inv .1) (c .before .front .ensures ∙ span-called true (a .ranges) (a .signed) (a .list .now) _ _ _ _ _ _ (l .before .before .padded-words .ensures) (toZ-pos w32 (length (a .list .now)) (omega arith)) refl refl (omega (arith, l .before .span-control .ensures))) (omega arith)
 
--- src/words.rt:34:5
 loop-less : tie.Need-loop-less Inv-loop μ-loop
-loop-less c = ?
+loop-less c = omega (arith, c .before .before .before .lesser .ensures)
 
--- src/words.rt:34:5
 loop-again : tie.Need-loop-again Inv-loop μ-loop
-loop-again c = ?
+loop-again c =
+    let l = c .before .before .before .before .before in
+    let a = l .before .before .before .before .before .args in
+    (omega (arith, c .before .before .before .lesser .ensures), span-goes-on true (a .ranges) (a .signed) (a .list .now) (a .text .now) (l .loop .i) (c .before .before .before .lesser .result) (c .before .front .result) (omega arith) (c .before .before .before .lesser .ensures) (omega arith) (l .loop .inv .1) (c .before .front .ensures ∙ span-called true (a .ranges) (a .signed) (a .list .now) _ _ _ _ _ _ (l .before .before .padded-words .ensures) (toZ-pos w32 (length (a .list .now)) (omega arith)) refl refl (omega (arith, l .before .span-control .ensures))) (omega arith))
 
--- src/words.rt:25:1
 returns-2 : tie.Need-returns-2 Inv-loop μ-loop
-returns-2 c = ?
+returns-2 c =
+    let l = c .before in
+    let a = l .before .before .before .before .before .args in
+    span-whole true (a .ranges) (a .signed) (a .list .now) (a .text .now) (l .loop .i) (omega arith) (l .loop .inv .1)
 
 pub length-of-span-spec : {M : Type 1} → statement M
 length-of-span-spec =

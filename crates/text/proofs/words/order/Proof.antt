@@ -1,0 +1,65 @@
+-- `text::words::order` meets its contract: at the first difference the elements decide, and with none the lengths. Assumes nothing.
+use Prim.Native.Nat.{min}
+use mathlib.Core.Path.{_∙_}
+use mathlib.Core.Bool.{true}
+use lib.ListN.{length}
+use mir.Syntax.{w32}
+use mir.ValLaws.{toZ-ofZ}
+use native.Mathlib.Omega.{arith}
+use borrow.Author.Needs.{needs}
+use Rattle.text.proofs.Calls.{by-elements, by-lengths}
+use Rattle.text.proofs.words.order.Statement.{statement}
+use Rattle.text.proofs.words.order.Tie as tie
+
+difference-requires : tie.Need-difference-requires
+difference-requires c κs = search needs
+
+lesser-requires : tie.Need-lesser-requires
+lesser-requires c κs = search needs
+
+mul-order-of-elements : tie.Need-mul-order-of-elements
+mul-order-of-elements c = omega (arith, c .before .lesser .ensures)
+
+shared-slice-read-order-of-elements : tie.Need-shared-slice-read-order-of-elements
+shared-slice-read-order-of-elements c = search needs
+
+mul-order-of-elements-2 : tie.Need-mul-order-of-elements-2
+mul-order-of-elements-2 c = omega (arith, c .before .before .lesser .ensures)
+
+shared-slice-read-order-of-elements-2 : tie.Need-shared-slice-read-order-of-elements-2
+shared-slice-read-order-of-elements-2 c = search needs
+
+order-of-elements-requires : tie.Need-order-of-elements-requires
+order-of-elements-requires c κs = search needs
+
+returns : tie.Need-returns
+returns c =
+    let a = c .before .before .before .before .before .before .before .before .args in
+    let d = c .before .before .before .before .before .difference in
+    let z = c .order-of-elements in
+    by-elements true (a .signed) (a .first .now) (a .second .now) (d .result) (d .ensures) _ (omega (arith, c .before .before .before .before .lesser .ensures)) (toZ-ofZ w32 (z .result) (record { sfits = z .ok }) ∙ z .ensures)
+
+order-of-lengths-requires : tie.Need-order-of-lengths-requires
+order-of-lengths-requires c κs = search needs
+
+returns-2 : tie.Need-returns-2
+returns-2 c =
+    let a = c .before .before .before .before .before .before .args in
+    let d = c .before .before .before .difference in
+    let z = c .order-of-lengths in
+    by-lengths true (a .signed) (a .first .now) (a .second .now) (d .result) (d .ensures) _ (omega (arith, c .before .before .lesser .ensures)) (toZ-ofZ w32 (z .result) (record { sfits = z .ok }) ∙ z .ensures)
+
+pub order-spec : {M : Type 1} → statement M
+order-spec =
+    tie.close
+    (tie.spec
+    difference-requires
+    lesser-requires
+    mul-order-of-elements
+    shared-slice-read-order-of-elements
+    mul-order-of-elements-2
+    shared-slice-read-order-of-elements-2
+    order-of-elements-requires
+    returns
+    order-of-lengths-requires
+    returns-2)
