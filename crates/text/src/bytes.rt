@@ -33,9 +33,9 @@ fn length_of_span(text: &[u8], list: &[u8], ranges: bool, signed: bool) -> usize
     let mut i = 0;
     while i < n {
         let e = blocks::lesser(i + 16, n);
-        let k = front(operand, l, &text[i..e], control);
-        if k < 16 {
-            return i + k;
+        let belong = front(operand, l, &text[i..e], control);
+        if belong < 16 {
+            return i + belong;
         }
         i = e;
     }

@@ -33,9 +33,9 @@ fn length_of_span(text: &[u16], list: &[u16], ranges: bool, signed: bool) -> usi
     let mut i = 0;
     while i < n {
         let e = blocks::lesser(i + 8, n);
-        let k = front(operand, l, &text[i..e], control);
-        if k < 8 {
-            return i + k;
+        let belong = front(operand, l, &text[i..e], control);
+        if belong < 8 {
+            return i + belong;
         }
         i = e;
     }
