@@ -12,6 +12,7 @@ use borrow.Author.Tests.{ltb-true, ltb-false, lt-ltb, le-ltb, eqb-true, eq-eqb, 
 use Rattle.bits.specs.Bits.{leastBelow, greatestBelow, tabulate}
 use Rattle.bits.proofs.Below.{least-within, by-test, least-before, least-passes, all-each, each-all}
 use Rattle.bits.proofs.Lists.{getD-tabulate}
+use Rattle.blocks.specs.Blocks.{operandOf}
 use Rattle.pcmpstr.specs.declared.Control.{Control}
 use Rattle.pcmpstr.specs.declared.Aggregation.the-variants.{EqualOrdered}
 use Rattle.pcmpstr.specs.Control.{controlOf}
@@ -21,7 +22,7 @@ use Rattle.pcmpstr.specs.Output.{indexOf}
 use Rattle.pcmpstr.specs.Calls.{explicit, PCMPESTRI}
 use Rattle.pcmpstr.specs.Parts.{eachOf, follows, orderedOf}
 use Rattle.pcmpstr.proofs.ValidElements.{bits-same}
-use Rattle.search.specs.Walk.{operandOf, compareIndex, ordered, eachNegated}
+use Rattle.search.specs.Walk.{compareIndex, ordered, eachNegated}
 
 -- ---- the operand of a part
 

@@ -5,6 +5,5 @@ pub mod Pieces
 pub mod Steps
 pub mod Walks
 pub mod Lists
-pub mod Operands
 pub mod Loops
 pub mod Refusals

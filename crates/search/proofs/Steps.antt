@@ -12,10 +12,11 @@ use native.Mathlib.Omega.{arith}
 use native.Mathlib.Nat.{not-suc-le-zero, add-zero, zero-add, add-assoc}
 use borrow.Author.Tests.{ltb-true, ltb-false, lt-ltb, le-ltb, ne-eqb, eqb-true}
 use Rattle.bits.proofs.Below.{by-test, by-order}
+use Rattle.blocks.specs.Blocks.{operandOf}
 use Rattle.pcmpstr.specs.Operand.{count}
 use Rattle.pcmpstr.specs.Calls.{PCMPESTRI}
 use Rattle.search.specs.Positions.{stands, positionsFrom}
-use Rattle.search.specs.Walk.{operandOf, compareIndex, ordered, Later, noneDiffers, oneDiffers, later, Step, here, noRoom, onward, afterLater, byIndex, block, firstIndex, started, step}
+use Rattle.search.specs.Walk.{compareIndex, ordered, Later, noneDiffers, oneDiffers, later, Step, here, noRoom, onward, afterLater, byIndex, block, firstIndex, started, step}
 use Rattle.search.proofs.Compare.{compare-called, ordered-before, ordered-most, ordered-zero}
 use Rattle.search.specs.Parts.{laterAt}
 use Rattle.search.proofs.Pieces.{front-is, part-is, agree-stands, stands-agree, fails, pieces, pieces-more, count-some, LaterOk, later-ok, agree-rest, rest-agree}

@@ -6,13 +6,14 @@ use mathlib.Core.List.{List, [], _∷_, _++_}
 use lib.Dec.{T, eqb}
 use lib.ListN.{length, replicate}
 use Rattle.bits.specs.Bits.{leastBelow, greatestBelow, tabulate, numberOf}
+use Rattle.blocks.specs.Blocks.{operandOf}
 use Rattle.pcmpstr.specs.Control.{controlOf}
 use Rattle.pcmpstr.specs.Operand.{explicitLength, wordsOf}
 use Rattle.pcmpstr.specs.Compare.{boolRes, intRes1, intRes2}
 use Rattle.pcmpstr.specs.Output.{indexOf, maskOf, bitMask, elementMask, flagsOf}
 use Rattle.pcmpstr.specs.Calls.{PCMPESTRI, PCMPESTRM}
 use Rattle.pcmpstr.specs.Specimens.{all, specimens as unitSpecimens, U1, U2, U3, U4, U5, U6, U7, U8, U9, padded, firstResult, result, index, CF, ZF, SF, OF}
-use Rattle.search.specs.Walk.{operandOf, compareIndex, later, walk, countFrom, walkCount, bound}
+use Rattle.search.specs.Walk.{compareIndex, later, walk, countFrom, walkCount, bound}
 use Rattle.search.specs.Cursors.{freshCursor, refusal, nextMatch}
 use Rattle.search.specs.Calls.{Said, found, absent, refused, saidBy, cursorAfter}
 

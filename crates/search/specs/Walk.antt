@@ -1,24 +1,16 @@
 -- The walk of document 01: what is compared from a position on, in which order, and how many compares that takes. `words` is the width;
 -- b is `count words`.
-use Prim.Native.Nat.{ℕ, zero, suc, _+_, _*_, _-_, _/_, _%_}
+use Prim.Native.Nat.{ℕ, zero, suc, _+_, _*_, _-_, _/_}
 use mathlib.Core.Bool.{Bool, true, false, cond}
 use mathlib.Core.List.{List, [], _∷_}
 use lib.Dec.{eqb, ltb}
-use lib.ListN.{length, getD, take, drop}
+use lib.ListN.{length, take, drop}
 use lib.IntN.{pos}
-use Rattle.bits.specs.Bits.{tabulate}
+use Rattle.blocks.specs.Blocks.{operandOf}
 use Rattle.pcmpstr.specs.Operand.{count}
 use Rattle.pcmpstr.specs.Calls.{PCMPESTRI}
 
 -- ---- one compare
-
--- byte i of the operand for a part of a text: its elements, a word's low byte first, and zero past the part's end
-abbrev pub operandByte : Bool → List ℕ → ℕ → ℕ
-operandByte false x i = getD x i 0
-operandByte true x i = cond (eqb (i % 2) 0) (getD x (i / 2) 0 % 256) (getD x (i / 2) 0 / 256)
-
-unfoldable pub operandOf : Bool → List ℕ → List ℕ
-operandOf words x = tabulate 16 (operandByte words x)
 
 -- A compare is a call of the unit: the index that it answers for two parts, each at its own length. c is the control in bytes.
 unfoldable pub compareIndex : Bool → ℕ → List ℕ → List ℕ → ℕ

@@ -1,57 +1,21 @@
-// The search in bytes: operands filled from parts of text and needle, then a step, the walk, and the call.
+// The search in bytes: the two compares, then a step, the walk, and the call.
 use crate::Cursor;
 use crate::Next;
 use crate::Stepped;
 use crate::lesser;
+use blocks::padded_bytes;
+use blocks::whole_bytes;
 ghost use mathlib.Core.Path.{_≡_};
 ghost use mathlib.Core.Bool.{false};
 ghost use Prim.Native.Nat.{_+_, _≤_, _<_, min};
 ghost use lib.Dec.{ltb};
 ghost use lib.ListN.{length, take};
 ghost use lib.IntN.{pos};
+ghost use Rattle.blocks.specs.Blocks.{operandOf};
 ghost use Rattle.pcmpstr.specs.Calls.{PCMPESTRI};
-ghost use Rattle.search.specs.Walk.{operandOf, compareIndex, eachNegated, step};
+ghost use Rattle.search.specs.Walk.{compareIndex, eachNegated, step};
 ghost use Rattle.search.specs.Cursors.{longestNeedle, longestText, mostCompares, nextMatch};
 ghost use Rattle.search.specs.Parts.{ended, laterAt, manyCompares, rested, stepped, total};
-
-// The operand of a part of sixteen bytes.
-fn whole(part: &[u8]) -> [u8; 16]
-    requires { ⌜ length (now part) ≡ 16 ⌝ }
-    ensures { λ r. ⌜ r ≡ operandOf false (now (part .entry)) ⌝ }
-{
-    [
-        part[0],
-        part[1],
-        part[2],
-        part[3],
-        part[4],
-        part[5],
-        part[6],
-        part[7],
-        part[8],
-        part[9],
-        part[10],
-        part[11],
-        part[12],
-        part[13],
-        part[14],
-        part[15],
-    ]
-}
-
-// The operand of a part of up to sixteen bytes, zero past the part's end.
-fn padded(part: &[u8]) -> [u8; 16]
-    requires { ⌜ length (now part) ≤ 16 ⌝ }
-    ensures { λ r. ⌜ r ≡ operandOf false (now (part .entry)) ⌝ }
-{
-    let mut bytes = [0u8; 16];
-    let mut i = 0;
-    while i < part.len() {
-        bytes[i] = part[i];
-        i += 1;
-    }
-    bytes
-}
 
 // Where the needle's first piece first stands in a block of the text: `first` is the piece's operand and l its length. A whole block is filled
 // without a test for each byte.
@@ -60,9 +24,9 @@ fn index(first: [u8; 16], l: usize, block: &[u8]) -> u32
     ensures { λ r. ⌜ r ≡ PCMPESTRI first (pos l) (operandOf false (now (block .entry))) (pos (length (now (block .entry)))) 12 .index ⌝ }
 {
     if block.len() == 16 {
-        return pcmpstr::pcmpestri_0c(first, l, whole(block), 16);
+        return pcmpstr::pcmpestri_0c(first, l, whole_bytes(block), 16);
     }
-    pcmpstr::pcmpestri_0c(first, l, padded(block), block.len())
+    pcmpstr::pcmpestri_0c(first, l, padded_bytes(block), block.len())
 }
 
 // A piece of the needle and as many bytes of the text differ.
@@ -71,10 +35,10 @@ fn differ(piece: &[u8], part: &[u8]) -> bool
     ensures { λ r. ⌜ r ≡ ltb (compareIndex false eachNegated (now (piece .entry)) (now (part .entry))) 16 ⌝ }
 {
     if piece.len() == 16 {
-        return pcmpstr::pcmpestri_18(whole(piece), 16, whole(part), 16) < 16;
+        return pcmpstr::pcmpestri_18(whole_bytes(piece), 16, whole_bytes(part), 16) < 16;
     }
     let l = piece.len();
-    pcmpstr::pcmpestri_18(padded(piece), l, padded(part), l) < 16
+    pcmpstr::pcmpestri_18(padded_bytes(piece), l, padded_bytes(part), l) < 16
 }
 
 impl Cursor {
@@ -128,7 +92,7 @@ impl Cursor {
         let n = text.len();
         let m = needle.len();
         let l = lesser(16, m);
-        let first = padded(&needle[..l]);
+        let first = padded_bytes(&needle[..l]);
         let mut at = self;
         while (at.position as usize) + m <= n {
             let s = at.step_in_bytes(text, needle, first, l);

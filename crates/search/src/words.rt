@@ -1,72 +1,21 @@
-// The search in words: operands filled from parts of text and needle, then a step, the walk, and the call.
+// The search in words: the two compares, then a step, the walk, and the call.
 use crate::Cursor;
 use crate::Next;
 use crate::Stepped;
 use crate::lesser;
+use blocks::padded_words;
+use blocks::whole_words;
 ghost use mathlib.Core.Path.{_≡_};
 ghost use mathlib.Core.Bool.{true};
-ghost use Prim.Native.Nat.{_+_, _/_, _%_, _≤_, _<_, min};
+ghost use Prim.Native.Nat.{_+_, _≤_, _<_, min};
 ghost use lib.Dec.{ltb};
 ghost use lib.ListN.{length, take};
 ghost use lib.IntN.{pos};
+ghost use Rattle.blocks.specs.Blocks.{operandOf};
 ghost use Rattle.pcmpstr.specs.Calls.{PCMPESTRI};
-ghost use Rattle.search.specs.Walk.{operandOf, compareIndex, eachNegated, step};
+ghost use Rattle.search.specs.Walk.{compareIndex, eachNegated, step};
 ghost use Rattle.search.specs.Cursors.{longestNeedle, longestText, mostCompares, nextMatch};
 ghost use Rattle.search.specs.Parts.{ended, laterAt, manyCompares, rested, stepped, total};
-
-// The low byte of a word, and the high one.
-fn low(word: u16) -> u8
-    ensures { λ r. ⌜ r ≡ word % 256 ⌝ }
-{
-    (word % 256) as u8
-}
-
-fn high(word: u16) -> u8
-    ensures { λ r. ⌜ r ≡ word / 256 ⌝ }
-{
-    (word / 256) as u8
-}
-
-// The operand of a part of eight words, the low byte of each first.
-fn whole(part: &[u16]) -> [u8; 16]
-    requires { ⌜ length (now part) ≡ 8 ⌝ }
-    ensures { λ r. ⌜ r ≡ operandOf true (now (part .entry)) ⌝ }
-{
-    [
-        low(part[0]),
-        high(part[0]),
-        low(part[1]),
-        high(part[1]),
-        low(part[2]),
-        high(part[2]),
-        low(part[3]),
-        high(part[3]),
-        low(part[4]),
-        high(part[4]),
-        low(part[5]),
-        high(part[5]),
-        low(part[6]),
-        high(part[6]),
-        low(part[7]),
-        high(part[7]),
-    ]
-}
-
-// The operand of a part of up to eight words, zero past the part's end.
-fn padded(part: &[u16]) -> [u8; 16]
-    requires { ⌜ length (now part) ≤ 8 ⌝ }
-    ensures { λ r. ⌜ r ≡ operandOf true (now (part .entry)) ⌝ }
-{
-    let mut bytes = [0u8; 16];
-    let mut i = 0;
-    while i < part.len() {
-        let at = 2 * i;
-        bytes[at] = low(part[i]);
-        bytes[at + 1] = high(part[i]);
-        i += 1;
-    }
-    bytes
-}
 
 // Where the needle's first piece first stands in a block of the text: `first` is the piece's operand and l its length. A whole block is filled
 // without a test for each byte.
@@ -75,9 +24,9 @@ fn index(first: [u8; 16], l: usize, block: &[u16]) -> u32
     ensures { λ r. ⌜ r ≡ PCMPESTRI first (pos l) (operandOf true (now (block .entry))) (pos (length (now (block .entry)))) 13 .index ⌝ }
 {
     if block.len() == 8 {
-        return pcmpstr::pcmpestri_0d(first, l, whole(block), 8);
+        return pcmpstr::pcmpestri_0d(first, l, whole_words(block), 8);
     }
-    pcmpstr::pcmpestri_0d(first, l, padded(block), block.len())
+    pcmpstr::pcmpestri_0d(first, l, padded_words(block), block.len())
 }
 
 // A piece of the needle and as many words of the text differ.
@@ -86,10 +35,10 @@ fn differ(piece: &[u16], part: &[u16]) -> bool
     ensures { λ r. ⌜ r ≡ ltb (compareIndex true eachNegated (now (piece .entry)) (now (part .entry))) 8 ⌝ }
 {
     if piece.len() == 8 {
-        return pcmpstr::pcmpestri_19(whole(piece), 8, whole(part), 8) < 8;
+        return pcmpstr::pcmpestri_19(whole_words(piece), 8, whole_words(part), 8) < 8;
     }
     let l = piece.len();
-    pcmpstr::pcmpestri_19(padded(piece), l, padded(part), l) < 8
+    pcmpstr::pcmpestri_19(padded_words(piece), l, padded_words(part), l) < 8
 }
 
 impl Cursor {
@@ -143,7 +92,7 @@ impl Cursor {
         let n = text.len();
         let m = needle.len();
         let l = lesser(8, m);
-        let first = padded(&needle[..l]);
+        let first = padded_words(&needle[..l]);
         let mut at = self;
         while (at.position as usize) + m <= n {
             let s = at.step_in_words(text, needle, first, l);

@@ -21,11 +21,11 @@ abbrev μ-loop : tie.MeasureT-loop
 lesser-requires : tie.Need-lesser-requires Inv-loop μ-loop
 lesser-requires c κs = search needs
 
-slice-aggregate-padded : tie.Need-slice-aggregate-padded Inv-loop μ-loop
-slice-aggregate-padded c = rw length-take (omega arith)
+slice-aggregate-padded-bytes : tie.Need-slice-aggregate-padded-bytes Inv-loop μ-loop
+slice-aggregate-padded-bytes c = rw length-take (omega arith)
 
-padded-requires : tie.Need-padded-requires Inv-loop μ-loop
-padded-requires c κs = rw length-take (omega arith)
+padded-bytes-requires : tie.Need-padded-bytes-requires Inv-loop μ-loop
+padded-bytes-requires c κs = search needs
 
 loop-holds : tie.Need-loop-holds Inv-loop μ-loop
 loop-holds c = (omega arith, refl)
@@ -38,7 +38,7 @@ step-in-bytes-requires c κs =
     let l = c .before in
     let s = l .before .before .before .before .before .before in
     let few = total-few false (s .args .text .now) (s .args .needle .now) (s .args .self) (l .loop .at) (l .loop .inv .1) (omega arith) (omega arith) (omega arith) in
-    ((omega arith, omega arith, few), (omega arith, l .before .before .before .lesser .ensures, l .before .padded .ensures))
+    ((omega arith, omega arith, few), (omega arith, l .before .before .before .lesser .ensures, l .before .padded-bytes .ensures))
 
 matched-requires : tie.Need-matched-requires Inv-loop μ-loop
 matched-requires c κs =
@@ -87,8 +87,8 @@ walk-in-bytes-spec =
     Inv-loop
     μ-loop
     lesser-requires
-    slice-aggregate-padded
-    padded-requires
+    slice-aggregate-padded-bytes
+    padded-bytes-requires
     loop-holds
     add-loop
     step-in-bytes-requires

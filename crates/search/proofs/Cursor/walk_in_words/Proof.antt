@@ -21,11 +21,11 @@ abbrev μ-loop : tie.MeasureT-loop
 lesser-requires : tie.Need-lesser-requires Inv-loop μ-loop
 lesser-requires c κs = search needs
 
-slice-aggregate-padded : tie.Need-slice-aggregate-padded Inv-loop μ-loop
-slice-aggregate-padded c = rw length-take (omega arith)
+slice-aggregate-padded-words : tie.Need-slice-aggregate-padded-words Inv-loop μ-loop
+slice-aggregate-padded-words c = rw length-take (omega arith)
 
-padded-requires : tie.Need-padded-requires Inv-loop μ-loop
-padded-requires c κs = rw length-take (omega arith)
+padded-words-requires : tie.Need-padded-words-requires Inv-loop μ-loop
+padded-words-requires c κs = search needs
 
 loop-holds : tie.Need-loop-holds Inv-loop μ-loop
 loop-holds c = (omega arith, refl)
@@ -38,7 +38,7 @@ step-in-words-requires c κs =
     let l = c .before in
     let s = l .before .before .before .before .before .before in
     let few = total-few true (s .args .text .now) (s .args .needle .now) (s .args .self) (l .loop .at) (l .loop .inv .1) (omega arith) (omega arith) (omega arith) in
-    ((omega arith, omega arith, few), (omega arith, l .before .before .before .lesser .ensures, l .before .padded .ensures))
+    ((omega arith, omega arith, few), (omega arith, l .before .before .before .lesser .ensures, l .before .padded-words .ensures))
 
 matched-requires : tie.Need-matched-requires Inv-loop μ-loop
 matched-requires c κs =
@@ -87,8 +87,8 @@ walk-in-words-spec =
     Inv-loop
     μ-loop
     lesser-requires
-    slice-aggregate-padded
-    padded-requires
+    slice-aggregate-padded-words
+    padded-words-requires
     loop-holds
     add-loop
     step-in-words-requires

@@ -8,8 +8,8 @@ use Rattle.pcmpstr.specs.Calls.{PCMPESTRI}
 use Rattle.search.proofs.bytes.index.Statement.{statement}
 use Rattle.search.proofs.bytes.index.Tie as tie
 
-whole-requires : tie.Need-whole-requires
-whole-requires c κs = search needs
+whole-bytes-requires : tie.Need-whole-bytes-requires
+whole-bytes-requires c κs = search needs
 
 pcmpestri-0c-requires : tie.Need-pcmpestri-0c-requires
 pcmpestri-0c-requires c κs = search needs
@@ -19,10 +19,10 @@ returns c =
     let a = c .before .before .before .before .args in
     let size : 16 ≡ length (a .block .now) = omega arith in
     c .pcmpestri-0c .ensures
-    ∙ (λ t. PCMPESTRI (a .first) (pos (a .l)) (c .before .whole .ensures t) (ap pos size t) 12 .index)
+    ∙ (λ t. PCMPESTRI (a .first) (pos (a .l)) (c .before .whole-bytes .ensures t) (ap pos size t) 12 .index)
 
-padded-requires : tie.Need-padded-requires
-padded-requires c κs = search needs
+padded-bytes-requires : tie.Need-padded-bytes-requires
+padded-bytes-requires c κs = search needs
 
 pcmpestri-0c-requires-2 : tie.Need-pcmpestri-0c-requires-2
 pcmpestri-0c-requires-2 c κs = search needs
@@ -31,15 +31,15 @@ returns-2 : tie.Need-returns-2
 returns-2 c =
     let a = c .before .before .before .before .args in
     c .pcmpestri-0c2 .ensures
-    ∙ (λ t. PCMPESTRI (a .first) (pos (a .l)) (c .before .padded .ensures t) (pos (length (a .block .now))) 12 .index)
+    ∙ (λ t. PCMPESTRI (a .first) (pos (a .l)) (c .before .padded-bytes .ensures t) (pos (length (a .block .now))) 12 .index)
 
 pub index-spec : {M : Type 1} → statement M
 index-spec =
     tie.close
     (tie.spec
-    whole-requires
+    whole-bytes-requires
     pcmpestri-0c-requires
     returns
-    padded-requires
+    padded-bytes-requires
     pcmpestri-0c-requires-2
     returns-2)

@@ -8,8 +8,8 @@ use Rattle.pcmpstr.specs.Calls.{PCMPESTRI}
 use Rattle.search.proofs.words.index.Statement.{statement}
 use Rattle.search.proofs.words.index.Tie as tie
 
-whole-requires : tie.Need-whole-requires
-whole-requires c κs = search needs
+whole-words-requires : tie.Need-whole-words-requires
+whole-words-requires c κs = search needs
 
 pcmpestri-0d-requires : tie.Need-pcmpestri-0d-requires
 pcmpestri-0d-requires c κs = search needs
@@ -19,10 +19,10 @@ returns c =
     let a = c .before .before .before .before .args in
     let size : 8 ≡ length (a .block .now) = omega arith in
     c .pcmpestri-0d .ensures
-    ∙ (λ t. PCMPESTRI (a .first) (pos (a .l)) (c .before .whole .ensures t) (ap pos size t) 13 .index)
+    ∙ (λ t. PCMPESTRI (a .first) (pos (a .l)) (c .before .whole-words .ensures t) (ap pos size t) 13 .index)
 
-padded-requires : tie.Need-padded-requires
-padded-requires c κs = search needs
+padded-words-requires : tie.Need-padded-words-requires
+padded-words-requires c κs = search needs
 
 pcmpestri-0d-requires-2 : tie.Need-pcmpestri-0d-requires-2
 pcmpestri-0d-requires-2 c κs = search needs
@@ -31,15 +31,15 @@ returns-2 : tie.Need-returns-2
 returns-2 c =
     let a = c .before .before .before .before .args in
     c .pcmpestri-0d2 .ensures
-    ∙ (λ t. PCMPESTRI (a .first) (pos (a .l)) (c .before .padded .ensures t) (pos (length (a .block .now))) 13 .index)
+    ∙ (λ t. PCMPESTRI (a .first) (pos (a .l)) (c .before .padded-words .ensures t) (pos (length (a .block .now))) 13 .index)
 
 pub index-spec : {M : Type 1} → statement M
 index-spec =
     tie.close
     (tie.spec
-    whole-requires
+    whole-words-requires
     pcmpestri-0d-requires
     returns
-    padded-requires
+    padded-words-requires
     pcmpestri-0d-requires-2
     returns-2)
