@@ -12,10 +12,11 @@ use native.Mathlib.Numerals.{add-one}
 use borrow.Author.Tests.{lt-ltb, le-ltb}
 use Rattle.bits.proofs.Below.{by-order}
 use Rattle.pcmpstr.specs.Operand.{count}
+use Rattle.blocks.specs.Blocks.{longestText}
 use Rattle.search.specs.declared.Cursor.{Cursor}
 use Rattle.search.specs.declared.Stepped.{Stepped}
 use Rattle.search.specs.Walk.{Later, noneDiffers, oneDiffers, more, Step, here, noRoom, onward, afterLater, step, Ended, matchAt, nowhere, plus, walk}
-use Rattle.search.specs.Cursors.{longestText, longestNeedle, mostCompares, refusal, accepted, nextMatch}
+use Rattle.search.specs.Cursors.{longestNeedle, mostCompares, refusal, accepted, nextMatch}
 use Rattle.search.specs.Parts.{laterAt, manyCompares, steppedBy, stepped, rested, total, ended, emptyNeedle}
 use Rattle.search.proofs.Pieces.{differsAt, later-end, later-differs, later-same, more-none}
 use Rattle.search.proofs.Steps.{step-past, step-empty, step-ok}

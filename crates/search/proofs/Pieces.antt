@@ -12,8 +12,9 @@ use native.Mathlib.Nat.{not-suc-le-zero, le-of-suc-le-suc, add-zero, zero-add, a
 use borrow.Author.Tests.{ltb-true, ltb-false, eqb-true, eq-eqb, leb-true, le-leb}
 use Rattle.bits.proofs.Below.{by-test, by-order, and-left, and-right}
 use Rattle.pcmpstr.specs.Operand.{count}
+use Rattle.blocks.specs.Blocks.{compareIndex, eachNegated}
 use Rattle.search.specs.Positions.{startsWith, stands}
-use Rattle.search.specs.Walk.{compareIndex, eachNegated, Later, noneDiffers, oneDiffers, more, pieceDiffers, afterPiece, laterFrom, later}
+use Rattle.search.specs.Walk.{Later, noneDiffers, oneDiffers, more, pieceDiffers, afterPiece, laterFrom, later}
 use Rattle.search.specs.Parts.{laterAt}
 use Rattle.search.proofs.Compare.{each-differs, each-same}
 

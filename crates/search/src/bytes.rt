@@ -2,7 +2,6 @@
 use crate::Cursor;
 use crate::Next;
 use crate::Stepped;
-use crate::lesser;
 use blocks::padded_bytes;
 use blocks::whole_bytes;
 ghost use mathlib.Core.Path.{_≡_};
@@ -11,10 +10,10 @@ ghost use Prim.Native.Nat.{_+_, _≤_, _<_, min};
 ghost use lib.Dec.{ltb};
 ghost use lib.ListN.{length, take};
 ghost use lib.IntN.{pos};
-ghost use Rattle.blocks.specs.Blocks.{operandOf};
+ghost use Rattle.blocks.specs.Blocks.{compareIndex, eachNegated, longestText, operandOf};
 ghost use Rattle.pcmpstr.specs.Calls.{PCMPESTRI};
-ghost use Rattle.search.specs.Walk.{compareIndex, eachNegated, step};
-ghost use Rattle.search.specs.Cursors.{longestNeedle, longestText, mostCompares, nextMatch};
+ghost use Rattle.search.specs.Walk.{step};
+ghost use Rattle.search.specs.Cursors.{longestNeedle, mostCompares, nextMatch};
 ghost use Rattle.search.specs.Parts.{ended, laterAt, manyCompares, rested, stepped, total};
 
 // Where the needle's first piece first stands in a block of the text: `first` is the piece's operand and l its length. A whole block is filled
@@ -53,7 +52,7 @@ impl Cursor {
         let mut compares = self.compares + 1;
         let mut i = 16;
         while i < m {
-            let e = lesser(i + 16, m);
+            let e = blocks::lesser(i + 16, m);
             let from = p + i;
             let to = p + e;
             if differ(&needle[i..e], &text[from..to]) {
@@ -72,7 +71,7 @@ impl Cursor {
         ensures { λ r. ⌜ r ≡ stepped self (step false (now (text .entry)) (now (needle .entry)) (self .position)) ⌝ }
     {
         let p = self.position as usize;
-        let e = lesser(p + 16, text.len());
+        let e = blocks::lesser(p + 16, text.len());
         let k = index(first, l, &text[p..e]);
         if k == 0 {
             return self.rest_in_bytes(text, needle);
@@ -91,7 +90,7 @@ impl Cursor {
     {
         let n = text.len();
         let m = needle.len();
-        let l = lesser(16, m);
+        let l = blocks::lesser(16, m);
         let first = padded_bytes(&needle[..l]);
         let mut at = self;
         while (at.position as usize) + m <= n {

@@ -5,8 +5,7 @@ use mathlib.Core.Path.{_≡_}
 use mathlib.Core.Bool.{Bool, true, false, not}
 use mathlib.Core.List.{List}
 use native.Mathlib.Omega.{arith}
-use lib.ListN.{length, getD, take, length-take}
-use lib.Seq.{getD-take}
+use lib.ListN.{length, getD, length-take}
 use borrow.Author.Tests.{not-true, not-false}
 use Rattle.bits.specs.Bits.{leastBelow}
 use Rattle.bits.proofs.Below.{by-order, least-within, least-before, least-passes}

@@ -1,6 +1,6 @@
 -- What the unit's index says of a block: of a text and a set or ranges, where the first element stands that does not belong; of two texts, where they
 -- first differ. With that, a loop over blocks finds the end of a span and the first difference. Stated over the width. Assumes nothing.
-use Prim.Native.Nat.{ℕ, _+_, _-_, _/_, _≤_, _<_, min}
+use Prim.Native.Nat.{ℕ, _+_, _-_, _≤_, _<_, min}
 use mathlib.Core.Path.{_≡_, refl, sym, ap, _∙_}
 use mathlib.Core.Bool.{Bool, true, false, cond, not, _&&_}
 use mathlib.Core.List.{List}
@@ -9,17 +9,16 @@ use lib.Dec.{eqb, ltb}
 use lib.ListN.{length, getD, take, drop, length-take, length-drop}
 use lib.IntN.{ℤ, pos}
 use lib.Seq.{getD-take, getD-drop}
-use borrow.Author.Tests.{lt-ltb, le-ltb, ltb-true, eqb-true, eqb-false, eq-eqb, ne-eqb}
+use borrow.Author.Tests.{ltb-true, eqb-true, eqb-false, eq-eqb, ne-eqb}
 use Rattle.bits.specs.Bits.{leastBelow}
 use Rattle.bits.proofs.Below.{by-test}
 use Rattle.pcmpstr.specs.declared.Control.{Control}
 use Rattle.pcmpstr.specs.declared.Aggregation.the-variants.{EqualAny, Ranges}
 use Rattle.pcmpstr.specs.Control.{controlOf}
-use Rattle.pcmpstr.specs.Operand.{count, valueOf}
+use Rattle.pcmpstr.specs.Operand.{count}
 use Rattle.pcmpstr.specs.Compare.{operands, intRes1, intRes2}
 use Rattle.pcmpstr.specs.Output.{indexOf}
 use Rattle.pcmpstr.specs.Calls.{PCMPESTRI}
-use Rattle.pcmpstr.specs.Parts.{anyOf, rangesOf}
 use Rattle.pcmpstr.proofs.Unit.{any-bit, ranges-bit}
 use Rattle.blocks.specs.Blocks.{operandOf, compareIndex, eachNegated}
 use Rattle.blocks.proofs.Compares.{parts-index, eachBit, each-is}

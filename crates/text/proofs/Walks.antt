@@ -1,7 +1,7 @@
 -- The least place of a text that passes a test, found block by block: a block's compare gives the least of its bits, and what lies past its elements
 -- is all set or all clear. Assumes nothing.
 use Prim.Native.Nat.{ℕ, _+_, _-_, _≤_, _<_}
-use mathlib.Core.Path.{_≡_, refl, sym, ap, _∙_}
+use mathlib.Core.Path.{_≡_}
 use mathlib.Core.Bool.{Bool, true, false, cond}
 use native.Mathlib.Omega.{arith}
 use lib.Dec.{ltb}

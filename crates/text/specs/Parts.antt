@@ -1,6 +1,6 @@
 -- What the parts of the library say, for the contracts of its private functions. A reader of the public calls needs none of it.
-use Prim.Native.Nat.{ℕ, _+_}
-use mathlib.Core.Bool.{Bool, true, false, cond}
+use Prim.Native.Nat.{ℕ}
+use mathlib.Core.Bool.{Bool, true, false}
 use mathlib.Core.List.{List}
 use Rattle.pcmpstr.specs.Operand.{valueOf}
 use Rattle.text.specs.Spans.{inSet, inRanges}

@@ -1,5 +1,4 @@
 -- `text::bounds_refusal` meets its contract: bounds are refused as a set is, and where they are odd. Assumes nothing.
-use mathlib.Core.Path.{sym, _∙_}
 use native.Mathlib.Omega.{arith}
 use borrow.Author.Needs.{needs}
 use borrow.Author.Tests.{eq-eqb, ne-eqb}

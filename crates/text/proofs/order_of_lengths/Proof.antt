@@ -1,5 +1,4 @@
 -- `text::order_of_lengths` meets its contract: the tests are those of `sign`. Assumes nothing.
-use native.Mathlib.Omega.{arith}
 use borrow.Author.Tests.{lt-ltb, le-ltb}
 use Rattle.text.proofs.order_of_lengths.Statement.{statement}
 use Rattle.text.proofs.order_of_lengths.Tie as tie

@@ -1,5 +1,4 @@
 -- `text::order_refusal` meets its contract: one text too long is enough. Assumes nothing.
-use native.Mathlib.Omega.{arith}
 use borrow.Author.Tests.{lt-ltb, le-ltb}
 use Rattle.blocks.specs.Blocks.{longestText}
 use Rattle.text.specs.Orders.{orderRefusal}

@@ -1,5 +1,5 @@
 -- `text::value` meets its contract: an element is small enough that neither the cast nor the difference loses anything. Assumes nothing.
-use mathlib.Core.Path.{sym, _∙_}
+use mathlib.Core.Path.{sym}
 use mathlib.Core.Bool.{true, false}
 use lib.IntN.{pos, _-ℤ_}
 use mir.Syntax.{w32}

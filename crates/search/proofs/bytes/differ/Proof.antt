@@ -7,8 +7,8 @@ use lib.ListN.{length}
 use lib.IntN.{pos}
 use native.Mathlib.Omega.{arith}
 use borrow.Author.Needs.{needs}
-use Rattle.search.specs.Walk.{eachNegated}
-use Rattle.search.proofs.Compare.{compare-called}
+use Rattle.blocks.specs.Blocks.{eachNegated}
+use Rattle.blocks.proofs.Compares.{compare-called}
 use Rattle.search.proofs.bytes.differ.Statement.{statement}
 use Rattle.search.proofs.bytes.differ.Tie as tie
 

@@ -1,12 +1,10 @@
 -- `text::bytes::difference` meets its contract. The invariant: the texts do not differ before i. Assumes nothing.
-use Prim.Native.Nat.{ℕ, _+_, _-_, _≤_}
-use mathlib.Core.Path.{_≡_, refl, sym, _∙_}
+use Prim.Native.Nat.{_-_, _≤_}
+use mathlib.Core.Path.{_≡_}
 use mathlib.Core.Bool.{false}
-use lib.ListN.{length, getD, length-take, length-drop}
+use lib.ListN.{length-take, length-drop}
 use native.Mathlib.Omega.{arith}
-use borrow.Author.Needs.{needs}
 use Rattle.bits.specs.Bits.{leastBelow}
-use Rattle.text.specs.Orders.{difference}
 use Rattle.text.proofs.Walks.{clear-to-start}
 use Rattle.text.proofs.Indexes.{differAt, difference-found, difference-goes-on, difference-none}
 use Rattle.text.proofs.bytes.difference.Statement.{statement}

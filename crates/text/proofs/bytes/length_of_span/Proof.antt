@@ -1,14 +1,12 @@
 -- `text::bytes::length_of_span` meets its contract. The invariant: no element before i fails to belong. Assumes nothing.
-use Prim.Native.Nat.{ℕ, _+_, _-_, _≤_}
-use mathlib.Core.Path.{_≡_, refl, sym, _∙_}
+use Prim.Native.Nat.{_-_, _≤_}
+use mathlib.Core.Path.{_≡_, refl, _∙_}
 use mathlib.Core.Bool.{true, false}
-use lib.ListN.{length, getD, length-take, length-drop}
+use lib.ListN.{length, length-take, length-drop}
 use mir.Syntax.{w32}
 use mir.ValLaws.{toZ-pos}
 use native.Mathlib.Omega.{arith}
-use borrow.Author.Needs.{needs}
 use Rattle.bits.specs.Bits.{leastBelow}
-use Rattle.text.specs.Spans.{spanLength}
 use Rattle.text.proofs.Walks.{clear-to-start}
 use Rattle.text.proofs.Indexes.{outsideAt, span-called, span-ends, span-goes-on, span-whole}
 use Rattle.text.proofs.bytes.length_of_span.Statement.{statement}

@@ -1,8 +1,6 @@
 -- `text::bytes::order` meets its contract: at the first difference the elements decide, and with none the lengths. Assumes nothing.
-use Prim.Native.Nat.{min}
 use mathlib.Core.Path.{_∙_}
 use mathlib.Core.Bool.{false}
-use lib.ListN.{length}
 use mir.Syntax.{w32}
 use mir.ValLaws.{toZ-ofZ}
 use native.Mathlib.Omega.{arith}

@@ -1,7 +1,6 @@
 -- `text::words::front` meets its contract: the operand is the block's, and its length fits 32 bits. Assumes nothing.
-use mathlib.Core.Path.{_≡_, ap, _∙_}
+use mathlib.Core.Path.{ap, _∙_}
 use lib.ListN.{length}
-use lib.IntN.{pos}
 use mir.Syntax.{w32}
 use mir.ValLaws.{toZ-pos, toZ-ofZ}
 use native.Mathlib.Omega.{arith}
