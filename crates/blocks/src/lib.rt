@@ -1,9 +1,9 @@
-// Operands of sixteen bytes, filled from parts of a text, zero past the part's end. Document 01: "a helper fills the sixteen bytes of the
-// operand, zero past the part's end".
+// A text as the unit takes it: how long it may be, and operands of sixteen bytes filled from its parts, zero past the part's end. Document 01: "a
+// helper fills the sixteen bytes of the operand, zero past the part's end".
 //
-// Public calls: `whole_bytes` and `padded_bytes` for a part in bytes, `whole_words` and `padded_words` for one in words. None asks anything of
-// its argument, and the two of a pair say the same: of a part that is too long the first sixteen bytes, or eight words, are taken. `whole_..` is
-// the quick one where the part is a whole block, `padded_..` where it is shorter.
+// Public calls: `whole_bytes` and `padded_bytes` for a part in bytes, `whole_words` and `padded_words` for one in words; and `lesser`, by which a
+// block's end is found. None asks anything of its arguments. The two of a pair say the same: of a part that is too long the first sixteen bytes, or
+// eight words, are taken. `whole_..` is the quick one where the part is a whole block, `padded_..` where it is shorter.
 ghost use mathlib.Core.Path.{_≡_};
 ghost use mathlib.Core.Bool.{true, false};
 ghost use Prim.Native.Nat.{_/_, _%_, min};
