@@ -18,18 +18,6 @@ fn wide(byte: u8) -> u64 {
     byte as u64
 }
 
-// Fills a part with letters of an alphabet, and gives the generator's state after it.
-fn fill(part: &mut [u8], alphabet: u64, start: u64) -> u64 {
-    let mut state = start;
-    let mut i = 0;
-    while i < part.len() {
-        state = draw::next(state);
-        part[i] = byte(draw::letter(alphabet, state >> 32));
-        i += 1;
-    }
-    state
-}
-
 // An element of a list, or a letter of the alphabet where `spread` is 0 or the list empty.
 fn pick(list: &[u8], spread: u64, alphabet: u64, draw: u64) -> u8 {
     if spread == 0 {
@@ -42,8 +30,8 @@ fn pick(list: &[u8], spread: u64, alphabet: u64, draw: u64) -> u8 {
     list[i]
 }
 
-// Fills a text with elements of a list.
-fn fill_from(part: &mut [u8], list: &[u8], spread: u64, alphabet: u64, start: u64) {
+// Fills a part with elements of a list, or with letters of the alphabet where `spread` is 0, and gives the generator's state after it.
+fn fill(part: &mut [u8], list: &[u8], spread: u64, alphabet: u64, start: u64) -> u64 {
     let mut state = start;
     let mut i = 0;
     while i < part.len() {
@@ -51,14 +39,14 @@ fn fill_from(part: &mut [u8], list: &[u8], spread: u64, alphabet: u64, start: u6
         part[i] = pick(list, spread, alphabet, state >> 32);
         i += 1;
     }
+    state
 }
 
-// Fills a part with one letter.
-fn flat(part: &mut [u8], letter: u16) {
-    let mut i = 0;
-    while i < part.len() {
+// Fills the first n elements of a part with one letter.
+fn flat(part: &mut [u8], n: usize, letter: u16) {
+    let e = lesser(part.len(), n);
+    for i in 0..e {
         part[i] = byte(letter);
-        i += 1;
     }
 }
 
@@ -99,28 +87,27 @@ fn same(a: &[u8], b: &[u8]) -> bool {
     true
 }
 
-// Runs `span`.
-pub fn span(text: &[u8], set: &[u8]) -> Run {
-    let part = text::bytes::span(text, set);
-    Run {
-        refusal: text::bytes::span_refusal(text, set),
-        length: part.len(),
-        contents: contents(part),
+// Runs `span`, or `range_span` unsigned or signed.
+fn run(text: &[u8], list: &[u8], kind: u64) -> Run {
+    if kind == cases::SETS {
+        let part = text::bytes::span(text, list);
+        return Run {
+            refusal: text::bytes::span_refusal(text, list),
+            length: part.len(),
+            contents: contents(part),
+        };
     }
-}
-
-// Runs `range_span`.
-pub fn range_span(text: &[u8], bounds: &[u8], signed: bool) -> Run {
-    let part = text::bytes::range_span(text, bounds, signed);
+    let signed = kind == cases::RANGES_SIGNED;
+    let part = text::bytes::range_span(text, list, signed);
     Run {
-        refusal: text::bytes::range_span_refusal(text, bounds, signed),
+        refusal: text::bytes::range_span_refusal(text, list, signed),
         length: part.len(),
         contents: contents(part),
     }
 }
 
 // Runs `compare` and `lesser`.
-pub fn order<'a>(first: &'a [u8], second: &'a [u8], signed: bool) -> Ordered {
+fn order<'a>(first: &'a [u8], second: &'a [u8], signed: bool) -> Ordered {
     let answer = text::bytes::compare(first, second, signed);
     let part = text::bytes::lesser(first, second, signed);
     Ordered {
@@ -133,53 +120,30 @@ pub fn order<'a>(first: &'a [u8], second: &'a [u8], signed: bool) -> Ordered {
     }
 }
 
-// Fills a list and a text as a case says, the text mostly with elements of the list.
-fn fill_both(text: &mut [u8], list: &mut [u8], case: Case) {
-    let state = fill(list, case.alphabet, case.state);
-    fill_from(text, list, case.spread, case.alphabet, state);
+// Runs a case of a set or of bounds: the list is drawn, then the text, mostly of elements of the list.
+fn list_case(text: &mut [u8], list: &mut [u8], case: Case, kind: u64) -> Run {
+    let state = fill(list, text, 0, case.alphabet, case.state);
+    fill(text, list, case.spread, case.alphabet, state);
     put(text, case.place, case.other);
-}
-
-// Runs a case of sets.
-fn set_case(text: &mut [u8], set: &mut [u8], case: Case) -> Run {
-    fill_both(text, set, case);
-    span(text, set)
-}
-
-// Runs a case of bounds.
-fn range_case(text: &mut [u8], bounds: &mut [u8], case: Case, signed: bool) -> Run {
-    fill_both(text, bounds, case);
-    range_span(text, bounds, signed)
+    run(text, list, kind)
 }
 
 // Runs a case of two texts, the second drawn as the first is.
 fn order_case(first: &mut [u8], second: &mut [u8], case: Case, signed: bool) -> Ordered {
-    fill(first, case.alphabet, case.state);
-    fill(second, case.alphabet, case.state);
+    fill(first, second, 0, case.alphabet, case.state);
+    fill(second, first, 0, case.alphabet, case.state);
     put(second, case.place, case.other);
     order(first, second, signed)
 }
 
-// The digest of the cases of sets, with texts and sets at the front of what is lent for them.
-fn sets_in(texts: &mut [u8], lists: &mut [u8]) -> u64 {
+// The digest of the cases of a kind, with texts and lists at the front of what is lent for them.
+fn lists_in(texts: &mut [u8], lists: &mut [u8], kind: u64) -> u64 {
     let mut digest = draw::SEED;
     for number in 0..cases::COUNT {
-        let case = cases::set_case(number, false);
+        let case = cases::list_case(number, kind, false);
         let n = lesser(case.n, texts.len());
         let m = lesser(case.m, lists.len());
-        digest = answers::fold_run(digest, set_case(&mut texts[..n], &mut lists[..m], case));
-    }
-    digest
-}
-
-// The same of bounds.
-fn ranges_in(texts: &mut [u8], lists: &mut [u8], signed: bool) -> u64 {
-    let mut digest = draw::SEED;
-    for number in 0..cases::COUNT {
-        let case = cases::range_case(number, signed, false);
-        let n = lesser(case.n, texts.len());
-        let m = lesser(case.m, lists.len());
-        let run = range_case(&mut texts[..n], &mut lists[..m], case, signed);
+        let run = list_case(&mut texts[..n], &mut lists[..m], case, kind);
         digest = answers::fold_run(digest, run);
     }
     digest
@@ -199,57 +163,19 @@ fn orders_in(firsts: &mut [u8], seconds: &mut [u8], signed: bool) -> u64 {
 }
 
 // The same with arrays, whose lengths are known by their types.
-fn sets_with(texts: &mut [u8; 96], lists: &mut [u8; 18]) -> u64 {
-    sets_in(texts, lists)
+pub fn lists(texts: &mut [u8; 96], lists: &mut [u8; 18], kind: u64) -> u64 {
+    lists_in(texts, lists, kind)
 }
 
-fn ranges_with(texts: &mut [u8; 96], lists: &mut [u8; 18], signed: bool) -> u64 {
-    ranges_in(texts, lists, signed)
-}
-
-fn orders_with(firsts: &mut [u8; 96], seconds: &mut [u8; 96], signed: bool) -> u64 {
+pub fn orders(firsts: &mut [u8; 96], seconds: &mut [u8; 96], signed: bool) -> u64 {
     orders_in(firsts, seconds, signed)
 }
 
-// The digest of the cases of sets.
-pub fn sets() -> u64 {
-    let mut texts = [0u8; 96];
-    let mut lists = [0u8; 18];
-    sets_with(&mut texts, &mut lists)
-}
-
-// The digest of the cases of bounds.
-pub fn ranges(signed: bool) -> u64 {
-    let mut texts = [0u8; 96];
-    let mut lists = [0u8; 18];
-    ranges_with(&mut texts, &mut lists, signed)
-}
-
-// The digest of the cases of orders.
-pub fn orders(signed: bool) -> u64 {
-    let mut firsts = [0u8; 96];
-    let mut seconds = [0u8; 96];
-    orders_with(&mut firsts, &mut seconds, signed)
-}
-
-// Fills a room with the letters of a shape.
-fn form(room: &mut [u8], shape: Shape) {
-    flat(room, shape.letter);
-    put(room, shape.place, shape.other);
-}
-
-// Runs `span` on the first n elements of a room and the first m of a list.
-fn span_front(room: &[u8], list: &[u8], n: usize, m: usize) -> Run {
+// Runs a call on the first n elements of a room and the first m of a list.
+fn run_front(room: &[u8], list: &[u8], n: usize, m: usize, kind: u64) -> Run {
     let e = lesser(n, room.len());
     let k = lesser(m, list.len());
-    span(&room[..e], &list[..k])
-}
-
-// Runs `range_span` so.
-fn range_span_front(room: &[u8], list: &[u8], n: usize, m: usize, signed: bool) -> Run {
-    let e = lesser(n, room.len());
-    let k = lesser(m, list.len());
-    range_span(&room[..e], &list[..k], signed)
+    run(&room[..e], &list[..k], kind)
 }
 
 // Runs the orders on the first n elements of one room and the first m of another.
@@ -259,25 +185,19 @@ fn order_front<'a>(room: &'a [u8], other: &'a [u8], n: usize, m: usize, signed: 
     order(&room[..e], &other[..k], signed)
 }
 
-// Runs `span` on a text of a shape and the first m elements of a list.
-fn span_on(room: &mut [u8], set: &mut [u8], shape: Shape, list: [u16; 18], m: usize) -> Run {
-    form(room, shape);
-    copy(set, list);
-    span_front(room, set, shape.n, m)
-}
-
-// Runs `range_span` on such a text and list.
-fn range_span_on(
+// Runs a call on a text of a shape and the first m elements of a list.
+fn run_on(
     room: &mut [u8],
-    bounds: &mut [u8],
+    set: &mut [u8],
     shape: Shape,
     list: [u16; 18],
     m: usize,
-    signed: bool,
+    kind: u64,
 ) -> Run {
-    form(room, shape);
-    copy(bounds, list);
-    range_span_front(room, bounds, shape.n, m, signed)
+    flat(room, shape.n, shape.letter);
+    put(room, shape.place, shape.other);
+    copy(set, list);
+    run_front(room, set, shape.n, m, kind)
 }
 
 // Runs the orders on two texts of shapes.
@@ -288,52 +208,23 @@ fn order_on(
     second: Shape,
     signed: bool,
 ) -> Ordered {
-    form(room, first);
-    form(other, second);
+    flat(room, first.n, first.letter);
+    put(room, first.place, first.other);
+    flat(other, second.n, second.letter);
+    put(other, second.place, second.other);
     order_front(room, other, first.n, second.n, signed)
 }
 
-// The same with arrays, whose lengths are known by their types: small ones, and large ones for the longest texts.
-fn span_small(
+// The same with arrays, whose lengths are known by their types: small ones, and large ones with room for one element more than is accepted.
+fn run_small(
     room: &mut [u8; 96],
     set: &mut [u8; 18],
     shape: Shape,
     list: [u16; 18],
     m: usize,
+    kind: u64,
 ) -> Run {
-    span_on(room, set, shape, list, m)
-}
-
-fn span_large(
-    room: &mut [u8; 1048577],
-    set: &mut [u8; 18],
-    shape: Shape,
-    list: [u16; 18],
-    m: usize,
-) -> Run {
-    span_on(room, set, shape, list, m)
-}
-
-fn range_span_small(
-    room: &mut [u8; 96],
-    bounds: &mut [u8; 18],
-    shape: Shape,
-    list: [u16; 18],
-    m: usize,
-    signed: bool,
-) -> Run {
-    range_span_on(room, bounds, shape, list, m, signed)
-}
-
-fn range_span_large(
-    room: &mut [u8; 1048577],
-    bounds: &mut [u8; 18],
-    shape: Shape,
-    list: [u16; 18],
-    m: usize,
-    signed: bool,
-) -> Run {
-    range_span_on(room, bounds, shape, list, m, signed)
+    run_on(room, set, shape, list, m, kind)
 }
 
 fn order_small(
@@ -346,6 +237,17 @@ fn order_small(
     order_on(room, other, first, second, signed)
 }
 
+fn run_large(
+    room: &mut [u8; 1048577],
+    set: &mut [u8; 18],
+    shape: Shape,
+    list: [u16; 18],
+    m: usize,
+    kind: u64,
+) -> Run {
+    run_on(room, set, shape, list, m, kind)
+}
+
 fn order_large(
     room: &mut [u8; 1048577],
     other: &mut [u8; 1048577],
@@ -356,35 +258,23 @@ fn order_large(
     order_on(room, other, first, second, signed)
 }
 
-// The same with rooms of their own. A large one has one element more than is accepted.
-pub fn span_edge(shape: Shape, list: [u16; 18], m: usize) -> Run {
+// The same with rooms of their own.
+pub fn run_edge(shape: Shape, list: [u16; 18], m: usize, kind: u64) -> Run {
     let mut room = [0u8; 96];
     let mut set = [0u8; 18];
-    span_small(&mut room, &mut set, shape, list, m)
-}
-
-pub fn span_long(shape: Shape, list: [u16; 18], m: usize) -> Run {
-    let mut room = [0u8; 1048577];
-    let mut set = [0u8; 18];
-    span_large(&mut room, &mut set, shape, list, m)
-}
-
-pub fn range_span_edge(shape: Shape, list: [u16; 18], m: usize, signed: bool) -> Run {
-    let mut room = [0u8; 96];
-    let mut bounds = [0u8; 18];
-    range_span_small(&mut room, &mut bounds, shape, list, m, signed)
-}
-
-pub fn range_span_long(shape: Shape, list: [u16; 18], m: usize, signed: bool) -> Run {
-    let mut room = [0u8; 1048577];
-    let mut bounds = [0u8; 18];
-    range_span_large(&mut room, &mut bounds, shape, list, m, signed)
+    run_small(&mut room, &mut set, shape, list, m, kind)
 }
 
 pub fn order_edge(first: Shape, second: Shape, signed: bool) -> Ordered {
     let mut room = [0u8; 96];
     let mut other = [0u8; 96];
     order_small(&mut room, &mut other, first, second, signed)
+}
+
+pub fn run_long(shape: Shape, list: [u16; 18], m: usize, kind: u64) -> Run {
+    let mut room = [0u8; 1048577];
+    let mut set = [0u8; 18];
+    run_large(&mut room, &mut set, shape, list, m, kind)
 }
 
 pub fn order_long(first: Shape, second: Shape, signed: bool) -> Ordered {

@@ -5,6 +5,13 @@ ghost use Prim.Native.Nat.{_≤_};
 // How many cases each group has.
 pub const COUNT: u64 = 6000;
 
+// What a list is: a set, or bounds.
+pub const SETS: u64 = 0;
+
+pub const RANGES_UNSIGNED: u64 = 1;
+
+pub const RANGES_SIGNED: u64 = 2;
+
 // What a text and a list, or two texts, are made of.
 pub struct Case {
     pub n: usize, // elements of the text, or of the first text
@@ -33,27 +40,18 @@ fn with_list(number: u64, m: u64, state: u64) -> Case
     }
 }
 
-// A count of members, up to b + 1.
-fn members(words: bool, draw: u64) -> u64
+// A count of members, up to b + 1, or of bounds, up to b + 2.
+fn count(kind: u64, words: bool, draw: u64) -> u64
     ensures { λ r. ⌜ r ≤ 18 ⌝ }
 {
-    if words { draw % 10 } else { draw % 18 }
+    if kind == SETS {
+        if words { draw % 10 } else { draw % 18 }
+    } else {
+        if words { draw % 11 } else { draw % 19 }
+    }
 }
 
-// Sets of 0 to b + 1 members.
-pub fn set_case(number: u64, words: bool) -> Case {
-    let s = draw::seed(number);
-    with_list(number, members(words, s >> 32), s)
-}
-
-// A count of bounds, up to b + 2.
-fn bounds(words: bool, draw: u64) -> u64
-    ensures { λ r. ⌜ r ≤ 18 ⌝ }
-{
-    if words { draw % 11 } else { draw % 19 }
-}
-
-// A count of bounds, mostly made even.
+// A count of bounds made even.
 fn even(count: u64, keep: bool) -> u64
     requires { ⌜ count ≤ 18 ⌝ }
     ensures { λ r. ⌜ r ≤ 18 ⌝ }
@@ -61,17 +59,22 @@ fn even(count: u64, keep: bool) -> u64
     if keep { count } else { count / 2 * 2 }
 }
 
-// Where the numbers of the signed groups begin, so that they have cases of their own.
-fn first_number(signed: bool) -> u64
-    ensures { λ r. ⌜ r ≤ 1000000 ⌝ }
-{
-    if signed { 1000000 } else { 500000 }
+// Where the numbers of a group begin, so that each has cases of its own.
+fn first_number(kind: u64) -> u64 {
+    match kind {
+        SETS => 0,
+        RANGES_UNSIGNED => 500000,
+        _ => 1000000,
+    }
 }
 
-// Lists of 0 to b + 2 bounds, one in four of any count, the others even.
-pub fn range_case(number: u64, signed: bool, words: bool) -> Case {
-    let s = draw::seed(std::num::wrapping_add_u64(first_number(signed), number));
-    let m = bounds(words, s >> 32);
+// Sets of any count; bounds of any count in one case of four, else of an even one.
+pub fn list_case(number: u64, kind: u64, words: bool) -> Case {
+    let s = draw::seed(std::num::wrapping_add_u64(first_number(kind), number));
+    let m = count(kind, words, s >> 32);
+    if kind == SETS {
+        return with_list(number, m, s);
+    }
     with_list(number, even(m, number / 16 % 4 == 0), s)
 }
 
@@ -87,9 +90,14 @@ fn second_length(index: u64, n: u64, draw: u64) -> u64
     }
 }
 
+// Where the numbers of the orders begin.
+fn order_number(signed: bool) -> u64 {
+    if signed { 1000000 } else { 500000 }
+}
+
 // Two texts of up to 81 elements. The second is drawn as the first is, with one letter put anywhere in it, or past its end.
 pub fn order_case(number: u64, signed: bool) -> Case {
-    let s = draw::seed(std::num::wrapping_add_u64(first_number(signed), number));
+    let s = draw::seed(std::num::wrapping_add_u64(order_number(signed), number));
     let t = draw::next(s);
     let n = (s >> 32) % 81;
     Case {

@@ -2,6 +2,9 @@
 use crate::answers::Ordered;
 use crate::answers::Run;
 use crate::bytes;
+use crate::cases::RANGES_SIGNED;
+use crate::cases::RANGES_UNSIGNED;
+use crate::cases::SETS;
 use crate::print;
 use crate::words;
 
@@ -98,20 +101,10 @@ fn flat(n: usize, letter: u16) -> Shape {
     }
 }
 
-// A text of twenty letters, with another at a place.
-fn twenty(letter: u16, place: usize, other: u16) -> Shape {
+// A text of n letters, with another at a place.
+fn shaped(n: usize, letter: u16, place: usize, other: u16) -> Shape {
     Shape {
-        n: 20,
-        letter: letter,
-        place: place,
-        other: other,
-    }
-}
-
-// A text of forty letters, with another at a place.
-fn forty(letter: u16, place: usize, other: u16) -> Shape {
-    Shape {
-        n: 40,
+        n: n,
         letter: letter,
         place: place,
         other: other,
@@ -119,45 +112,28 @@ fn forty(letter: u16, place: usize, other: u16) -> Shape {
 }
 
 // The calls in a width.
-fn span(words: bool, shape: Shape, list: [u16; 18], m: usize) -> Run {
+fn run_of(words: bool, shape: Shape, list: [u16; 18], m: usize, kind: u64) -> Run {
     if words {
-        words::span_edge(shape, list, m)
+        words::run_edge(shape, list, m, kind)
     } else {
-        bytes::span_edge(shape, list, m)
+        bytes::run_edge(shape, list, m, kind)
     }
 }
 
-fn range_span(words: bool, shape: Shape, list: [u16; 18], m: usize, signed: bool) -> Run {
+fn order_of(words: bool, first: Shape, second: Shape, signed: bool) -> Ordered {
     if words {
-        words::range_span_edge(shape, list, m, signed)
+        words::order_edge(first, second, signed)
     } else {
-        bytes::range_span_edge(shape, list, m, signed)
-    }
-}
-
-fn order(words: bool, shape: Shape, other: Shape, signed: bool) -> Ordered {
-    if words {
-        words::order_edge(shape, other, signed)
-    } else {
-        bytes::order_edge(shape, other, signed)
+        bytes::order_edge(first, second, signed)
     }
 }
 
 // The same on the longest texts.
-fn span_long(words: bool, shape: Shape, m: usize) -> Run {
+fn run_long(words: bool, shape: Shape, list: [u16; 18], m: usize, kind: u64) -> Run {
     if words {
-        words::span_long(shape, LETTERS, m)
+        words::run_long(shape, list, m, kind)
     } else {
-        bytes::span_long(shape, LETTERS, m)
-    }
-}
-
-fn range_span_long(words: bool, shape: Shape, m: usize, signed: bool) -> Run {
-    let bounds = four(A, C, B, B);
-    if words {
-        words::range_span_long(shape, bounds, m, signed)
-    } else {
-        bytes::range_span_long(shape, bounds, m, signed)
+        bytes::run_long(shape, list, m, kind)
     }
 }
 
@@ -172,23 +148,23 @@ fn order_long(words: bool, first: Shape, second: Shape, signed: bool) -> Ordered
 // A line of a set: refusal and length.
 fn set_line(words: bool, name: &[u8], shape: Shape, list: [u16; 18], m: usize) {
     print::name(words, name);
-    print::run(span(words, shape, list, m));
+    print::run(run_of(words, shape, list, m, SETS));
     print::end();
 }
 
 // A line of bounds: refusal and length, first unsigned, then signed.
 fn range_line(words: bool, name: &[u8], shape: Shape, list: [u16; 18], m: usize) {
     print::name(words, name);
-    print::run(range_span(words, shape, list, m, false));
-    print::run(range_span(words, shape, list, m, true));
+    print::run(run_of(words, shape, list, m, RANGES_UNSIGNED));
+    print::run(run_of(words, shape, list, m, RANGES_SIGNED));
     print::end();
 }
 
 // A line of two texts: what `compare` and `lesser` gave, first unsigned, then signed.
 fn order_line(words: bool, name: &[u8], shape: Shape, other: Shape) {
     print::name(words, name);
-    print::ordered(order(words, shape, other, false));
-    print::ordered(order(words, shape, other, true));
+    print::ordered(order_of(words, shape, other, false));
+    print::ordered(order_of(words, shape, other, true));
     print::end();
 }
 
@@ -196,26 +172,26 @@ fn order_line(words: bool, name: &[u8], shape: Shape, other: Shape) {
 fn run_line(words: bool, name: &[u8], k: usize, shape: Shape) {
     print::name(words, name);
     print::number(k as u64);
-    print::run(span(words, shape, LETTERS, 3));
-    print::run(range_span(words, shape, four(A, C, 0, 0), 2, false));
-    print::run(range_span(words, shape, four(A, C, 0, 0), 2, true));
+    print::run(run_of(words, shape, LETTERS, 3, SETS));
+    print::run(run_of(words, shape, four(A, C, 0, 0), 2, RANGES_UNSIGNED));
+    print::run(run_of(words, shape, four(A, C, 0, 0), 2, RANGES_SIGNED));
     print::end();
 }
 
 // The lines of a place k: a run that ends there, a text of that length that belongs as a whole, two texts that differ there first, and two of which
 // the second is the first's front of that length.
 fn place_lines(words: bool, k: usize) {
-    run_line(words, b"ends-at", k, forty(A, k, Z));
+    run_line(words, b"ends-at", k, shaped(40, A, k, Z));
     run_line(words, b"whole", k, flat(k, B));
     print::name(words, b"differ-at");
     print::number(k as u64);
-    print::ordered(order(words, forty(A, k, B), flat(40, A), false));
-    print::ordered(order(words, forty(A, k, B), flat(40, A), true));
+    print::ordered(order_of(words, shaped(40, A, k, B), flat(40, A), false));
+    print::ordered(order_of(words, shaped(40, A, k, B), flat(40, A), true));
     print::end();
     print::name(words, b"front-at");
     print::number(k as u64);
-    print::ordered(order(words, flat(40, A), flat(k, A), false));
-    print::ordered(order(words, flat(40, A), flat(k, A), true));
+    print::ordered(order_of(words, flat(40, A), flat(k, A), false));
+    print::ordered(order_of(words, flat(40, A), flat(k, A), true));
     print::end();
 }
 
@@ -241,25 +217,25 @@ fn set_sizes(words: bool) {
     set_line(words, b"set empty-text", flat(0, A), LETTERS, 3);
     set_line(words, b"set empty-set", flat(20, A), LETTERS, 0);
     set_line(words, b"set both-empty", flat(0, A), LETTERS, 0);
-    set_line(words, b"set one-member", twenty(A, 19, B), LETTERS, 1);
+    set_line(words, b"set one-member", shaped(20, A, 19, B), LETTERS, 1);
     set_line(
         words,
         b"set b-1-members",
-        twenty(fewer, 19, last),
+        shaped(20, fewer, 19, last),
         LETTERS,
         size(words, 15, 7),
     );
     set_line(
         words,
         b"set b-members",
-        twenty(last, 19, past),
+        shaped(20, last, 19, past),
         LETTERS,
         size(words, 16, 8),
     );
     set_line(
         words,
         b"set b+1-members",
-        twenty(last, 19, past),
+        shaped(20, last, 19, past),
         LETTERS,
         size(words, 17, 9),
     );
@@ -267,7 +243,13 @@ fn set_sizes(words: bool) {
 
 // The zero element: what pads an operand is no member.
 fn set_zeros(words: bool) {
-    set_line(words, b"set zero-no-member", twenty(A, 3, 0), LETTERS, 3);
+    set_line(
+        words,
+        b"set zero-no-member",
+        shaped(20, A, 3, 0),
+        LETTERS,
+        3,
+    );
     set_line(
         words,
         b"set zeros-b-1-members",
@@ -278,7 +260,7 @@ fn set_zeros(words: bool) {
     set_line(
         words,
         b"set zero-member",
-        twenty(A, 3, 0),
+        shaped(20, A, 3, 0),
         four(A, 0, B, C),
         2,
     );
@@ -288,7 +270,7 @@ fn set_zeros(words: bool) {
 // Lists with few bounds and with as many as an operand holds. The text is of the last bound.
 fn range_sizes(words: bool) {
     let last = at(words, 0x6172, 0x6132);
-    let text = twenty(last, 19, Z);
+    let text = shaped(20, last, 19, Z);
     range_line(words, b"range empty-text", flat(0, A), BOUNDS, 2);
     range_line(words, b"range no-bounds", flat(20, A), BOUNDS, 0);
     range_line(words, b"range one-bound", flat(20, 0x6101), BOUNDS, 1);
@@ -318,29 +300,35 @@ fn range_bounds(words: bool) {
     range_line(
         words,
         b"range low-equals-high",
-        twenty(B, 5, C),
+        shaped(20, B, 5, C),
         four(B, B, 0, 0),
         2,
     );
     range_line(
         words,
         b"range second-range",
-        twenty(B, 3, 0x6172),
+        shaped(20, B, 3, 0x6172),
         several,
         4,
     );
     range_line(
         words,
         b"range gap-between-ranges",
-        twenty(0x6173, 9, 0x6164),
+        shaped(20, 0x6173, 9, 0x6164),
         several,
         4,
     );
-    range_line(words, b"range zero-in-none", twenty(A, 3, 0), several, 4);
+    range_line(
+        words,
+        b"range zero-in-none",
+        shaped(20, A, 3, 0),
+        several,
+        4,
+    );
     range_line(
         words,
         b"range zero-in-second",
-        twenty(A, 3, 0),
+        shaped(20, A, 3, 0),
         four(A, C, 0, 0),
         4,
     );
@@ -354,42 +342,42 @@ fn range_signs(words: bool) {
     range_line(
         words,
         b"range ff-to-01",
-        twenty(0, 4, most),
+        shaped(20, 0, 4, most),
         four(most, 1, 0, 0),
         2,
     );
     range_line(
         words,
         b"range ff-to-01-with-02",
-        twenty(0, 7, 2),
+        shaped(20, 0, 7, 2),
         four(most, 1, 0, 0),
         2,
     );
     range_line(
         words,
         b"range 80-to-7f",
-        twenty(top, 4, least),
+        shaped(20, top, 4, least),
         four(least, top, 0, 0),
         2,
     );
     range_line(
         words,
         b"range 7f-to-80",
-        twenty(top, 4, least),
+        shaped(20, top, 4, least),
         four(top, least, 0, 0),
         2,
     );
     range_line(
         words,
         b"range 00-to-ff",
-        twenty(top, 4, least),
+        shaped(20, top, 4, least),
         four(0, most, 0, 0),
         2,
     );
     range_line(
         words,
         b"range 80-to-ff",
-        twenty(least, 11, 0),
+        shaped(20, least, 11, 0),
         four(least, most, 0, 0),
         2,
     );
@@ -397,7 +385,12 @@ fn range_signs(words: bool) {
 
 // Equal and empty texts, and one element.
 fn order_sizes(words: bool) {
-    order_line(words, b"order equal", forty(A, 17, Z), forty(A, 17, Z));
+    order_line(
+        words,
+        b"order equal",
+        shaped(40, A, 17, Z),
+        shaped(40, A, 17, Z),
+    );
     order_line(words, b"order both-empty", flat(0, A), flat(0, A));
     order_line(words, b"order empty-and-one", flat(0, A), flat(1, 0));
     order_line(words, b"order one-and-empty", flat(1, 0), flat(0, A));
@@ -405,7 +398,7 @@ fn order_sizes(words: bool) {
     order_line(
         words,
         b"order first-longer-but-smaller",
-        forty(B, 8, A),
+        shaped(40, B, 8, A),
         flat(16, B),
     );
 }
@@ -418,32 +411,32 @@ fn order_signs(words: bool) {
     order_line(
         words,
         b"order 7f-and-80",
-        twenty(A, 18, top),
-        twenty(A, 18, least),
+        shaped(20, A, 18, top),
+        shaped(20, A, 18, least),
     );
     order_line(
         words,
         b"order 80-and-7f",
-        twenty(A, 18, least),
-        twenty(A, 18, top),
+        shaped(20, A, 18, least),
+        shaped(20, A, 18, top),
     );
     order_line(
         words,
         b"order 00-and-ff",
-        twenty(A, 18, 0),
-        twenty(A, 18, most),
+        shaped(20, A, 18, 0),
+        shaped(20, A, 18, most),
     );
     order_line(
         words,
         b"order ff-and-00",
-        twenty(A, 18, most),
-        twenty(A, 18, 0),
+        shaped(20, A, 18, most),
+        shaped(20, A, 18, 0),
     );
     order_line(
         words,
         b"order 80-and-ff",
-        twenty(A, 18, least),
-        twenty(A, 18, most),
+        shaped(20, A, 18, least),
+        shaped(20, A, 18, most),
     );
 }
 
@@ -452,56 +445,49 @@ fn halves() {
     order_line(
         true,
         b"order high-byte",
-        twenty(A, 9, 0x6261),
-        twenty(A, 9, 0x6361),
+        shaped(20, A, 9, 0x6261),
+        shaped(20, A, 9, 0x6361),
     );
     order_line(
         true,
         b"order low-byte",
-        twenty(A, 9, 0x6262),
-        twenty(A, 9, 0x6261),
+        shaped(20, A, 9, 0x6262),
+        shaped(20, A, 9, 0x6261),
     );
     order_line(
         true,
         b"order high-bit-of-low-byte",
-        twenty(A, 9, 0x617f),
-        twenty(A, 9, 0x6180),
+        shaped(20, A, 9, 0x617f),
+        shaped(20, A, 9, 0x6180),
     );
     order_line(
         true,
         b"order high-byte-before-low",
-        twenty(A, 9, 0x01ff),
-        twenty(A, 9, 0x0200),
+        shaped(20, A, 9, 0x01ff),
+        shaped(20, A, 9, 0x0200),
     );
-    set_line(true, b"set high-byte", twenty(A, 9, 0x6261), LETTERS, 3);
-    set_line(true, b"set low-byte", twenty(A, 9, 0x6171), LETTERS, 3);
+    set_line(true, b"set high-byte", shaped(20, A, 9, 0x6261), LETTERS, 3);
+    set_line(true, b"set low-byte", shaped(20, A, 9, 0x6171), LETTERS, 3);
     range_line(
         true,
         b"range high-byte",
-        twenty(A, 9, 0x6262),
+        shaped(20, A, 9, 0x6262),
         four(A, C, 0, 0),
         2,
     );
     range_line(
         true,
         b"range low-byte",
-        twenty(0x6200, 9, 0x6202),
+        shaped(20, 0x6200, 9, 0x6202),
         four(0x61ff, 0x6201, 0, 0),
         2,
     );
 }
 
-// A line of the longest texts and a set.
-fn long_set_line(words: bool, name: &[u8], shape: Shape, m: usize) {
+// A line of the longest texts and a list.
+fn long_line(words: bool, name: &[u8], shape: Shape, list: [u16; 18], m: usize, kind: u64) {
     print::name(words, name);
-    print::run(span_long(words, shape, m));
-    print::end();
-}
-
-// A line of the longest texts and bounds, unsigned.
-fn long_range_line(words: bool, name: &[u8], shape: Shape, m: usize) {
-    print::name(words, name);
-    print::run(range_span_long(words, shape, m, false));
+    print::run(run_long(words, shape, list, m, kind));
     print::end();
 }
 
@@ -512,41 +498,85 @@ fn long_order_line(words: bool, name: &[u8], first: Shape, second: Shape) {
     print::end();
 }
 
-// The longest text with a z as its last letter.
-fn z_at_end() -> Shape {
-    Shape {
-        n: LONGEST,
-        letter: A,
-        place: 1048575,
-        other: Z,
-    }
-}
-
 // The longest texts and sets, and one element more.
 fn long_sets(words: bool) {
     let above = size(words, 17, 9);
-    long_set_line(words, b"set longest-text", flat(LONGEST, A), 3);
-    long_set_line(words, b"set longest-text-z-at-end", z_at_end(), 3);
-    long_set_line(words, b"set text-too-long", flat(TOO_LONG, A), 3);
-    long_set_line(
+    let text = flat(TOO_LONG, A);
+    let last = shaped(LONGEST, A, 1048575, Z);
+    long_line(
+        words,
+        b"set longest-text",
+        flat(LONGEST, A),
+        LETTERS,
+        3,
+        SETS,
+    );
+    long_line(words, b"set longest-text-z-at-end", last, LETTERS, 3, SETS);
+    long_line(words, b"set text-too-long", text, LETTERS, 3, SETS);
+    long_line(
         words,
         b"set text-too-long-b+1-members",
-        flat(TOO_LONG, A),
+        text,
+        LETTERS,
         above,
+        SETS,
     );
 }
 
 // The same with bounds.
 fn long_ranges(words: bool) {
+    let bounds = four(A, C, B, B);
     let text = flat(TOO_LONG, A);
     let odd = size(words, 17, 9);
     let above = size(words, 18, 10);
-    long_range_line(words, b"range longest-text", flat(LONGEST, A), 2);
-    long_range_line(words, b"range longest-text-z-at-end", z_at_end(), 4);
-    long_range_line(words, b"range text-too-long", text, 2);
-    long_range_line(words, b"range text-too-long-b+2-bounds", text, above);
-    long_range_line(words, b"range text-too-long-odd-bounds", text, 3);
-    long_range_line(words, b"range text-too-long-b+1-bounds", text, odd);
+    long_line(
+        words,
+        b"range longest-text",
+        flat(LONGEST, A),
+        bounds,
+        2,
+        RANGES_UNSIGNED,
+    );
+    long_line(
+        words,
+        b"range longest-text-z-at-end",
+        shaped(LONGEST, A, 1048575, Z),
+        bounds,
+        4,
+        RANGES_UNSIGNED,
+    );
+    long_line(
+        words,
+        b"range text-too-long",
+        text,
+        bounds,
+        2,
+        RANGES_UNSIGNED,
+    );
+    long_line(
+        words,
+        b"range text-too-long-b+2-bounds",
+        text,
+        bounds,
+        above,
+        RANGES_UNSIGNED,
+    );
+    long_line(
+        words,
+        b"range text-too-long-odd-bounds",
+        text,
+        bounds,
+        3,
+        RANGES_UNSIGNED,
+    );
+    long_line(
+        words,
+        b"range text-too-long-b+1-bounds",
+        text,
+        bounds,
+        odd,
+        RANGES_UNSIGNED,
+    );
 }
 
 // Their order.
@@ -554,7 +584,12 @@ fn long_orders(words: bool) {
     let text = flat(LONGEST, A);
     let too_long = flat(TOO_LONG, A);
     long_order_line(words, b"order longest-equal", text, text);
-    long_order_line(words, b"order longest-z-at-end", z_at_end(), text);
+    long_order_line(
+        words,
+        b"order longest-z-at-end",
+        shaped(LONGEST, A, 1048575, Z),
+        text,
+    );
     long_order_line(words, b"order longest-and-front", text, flat(1048575, A));
     long_order_line(words, b"order first-too-long", too_long, flat(1, A));
     long_order_line(words, b"order second-too-long", flat(1, A), too_long);

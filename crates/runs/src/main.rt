@@ -13,30 +13,36 @@ mod words;
 
 // The drawn cases in bytes.
 fn in_bytes() {
-    print::group(false, b"sets", cases::COUNT, bytes::sets());
-    print::group(
-        false,
-        b"ranges-unsigned",
-        cases::COUNT,
-        bytes::ranges(false),
-    );
-    print::group(false, b"ranges-signed", cases::COUNT, bytes::ranges(true));
-    print::group(
-        false,
-        b"orders-unsigned",
-        cases::COUNT,
-        bytes::orders(false),
-    );
-    print::group(false, b"orders-signed", cases::COUNT, bytes::orders(true));
+    let mut texts = [0u8; 96];
+    let mut seconds = [0u8; 96];
+    let mut lists = [0u8; 18];
+    let sets = bytes::lists(&mut texts, &mut lists, cases::SETS);
+    print::group(false, b"sets", cases::COUNT, sets);
+    let unsigned = bytes::lists(&mut texts, &mut lists, cases::RANGES_UNSIGNED);
+    print::group(false, b"ranges-unsigned", cases::COUNT, unsigned);
+    let signed = bytes::lists(&mut texts, &mut lists, cases::RANGES_SIGNED);
+    print::group(false, b"ranges-signed", cases::COUNT, signed);
+    let orders = bytes::orders(&mut texts, &mut seconds, false);
+    print::group(false, b"orders-unsigned", cases::COUNT, orders);
+    let signed_orders = bytes::orders(&mut texts, &mut seconds, true);
+    print::group(false, b"orders-signed", cases::COUNT, signed_orders);
 }
 
 // The drawn cases in words.
 fn in_words() {
-    print::group(true, b"sets", cases::COUNT, words::sets());
-    print::group(true, b"ranges-unsigned", cases::COUNT, words::ranges(false));
-    print::group(true, b"ranges-signed", cases::COUNT, words::ranges(true));
-    print::group(true, b"orders-unsigned", cases::COUNT, words::orders(false));
-    print::group(true, b"orders-signed", cases::COUNT, words::orders(true));
+    let mut texts = [0u16; 96];
+    let mut seconds = [0u16; 96];
+    let mut lists = [0u16; 18];
+    let sets = words::lists(&mut texts, &mut lists, cases::SETS);
+    print::group(true, b"sets", cases::COUNT, sets);
+    let unsigned = words::lists(&mut texts, &mut lists, cases::RANGES_UNSIGNED);
+    print::group(true, b"ranges-unsigned", cases::COUNT, unsigned);
+    let signed = words::lists(&mut texts, &mut lists, cases::RANGES_SIGNED);
+    print::group(true, b"ranges-signed", cases::COUNT, signed);
+    let orders = words::orders(&mut texts, &mut seconds, false);
+    print::group(true, b"orders-unsigned", cases::COUNT, orders);
+    let signed_orders = words::orders(&mut texts, &mut seconds, true);
+    print::group(true, b"orders-signed", cases::COUNT, signed_orders);
 }
 
 fn main() {

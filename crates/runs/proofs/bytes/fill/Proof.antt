@@ -7,10 +7,10 @@ use Rattle.runs.proofs.bytes.fill.Statement.{statement}
 use Rattle.runs.proofs.bytes.fill.Tie as tie
 
 abbrev Inv-loop : tie.InvT-loop
-Inv-loop part₀ alphabet start state₀ i₀ part state i = (length part ≡ length part₀) × (i ≤ length part)
+Inv-loop part₀ list spread alphabet start state₀ i₀ part state i = (length part ≡ length part₀) × (i ≤ length part)
 
 abbrev μ-loop : tie.MeasureT-loop
-μ-loop part₀ alphabet start state₀ i₀ part state i = length part₀ - i
+μ-loop part₀ list spread alphabet start state₀ i₀ part state i = length part₀ - i
 
 loop-holds : tie.Need-loop-holds Inv-loop μ-loop
 loop-holds c = omega arith
@@ -18,11 +18,8 @@ loop-holds c = omega arith
 next-requires : tie.Need-next-requires Inv-loop μ-loop
 next-requires c κs = tt
 
-letter-requires : tie.Need-letter-requires Inv-loop μ-loop
-letter-requires c κs = tt
-
-byte-requires : tie.Need-byte-requires Inv-loop μ-loop
-byte-requires c κs = tt
+pick-requires : tie.Need-pick-requires Inv-loop μ-loop
+pick-requires c κs = tt
 
 slice-write-part : tie.Need-slice-write-part Inv-loop μ-loop
 slice-write-part c = omega arith
@@ -50,8 +47,7 @@ fill-spec =
     μ-loop
     loop-holds
     next-requires
-    letter-requires
-    byte-requires
+    pick-requires
     slice-write-part
     add-i
     loop-less

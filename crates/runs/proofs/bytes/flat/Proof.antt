@@ -1,4 +1,4 @@
--- `runs::bytes::flat` is safe and ends: a store keeps the part's length, and `i` goes from 0 to it. Assumes nothing.
+-- `runs::bytes::flat` is safe and ends: `i` goes from 0 to `e`, up to which the part has elements, and a store keeps the part's length. Assumes nothing.
 use Prim.Native.Nat.{_≤_, _-_}
 use native.Mathlib.Omega.{arith}
 use mathlib.Core.Path.{_≡_}
@@ -7,10 +7,13 @@ use Rattle.runs.proofs.bytes.flat.Statement.{statement}
 use Rattle.runs.proofs.bytes.flat.Tie as tie
 
 abbrev Inv-loop : tie.InvT-loop
-Inv-loop part₀ letter i₀ part i = (length part ≡ length part₀) × (i ≤ length part)
+Inv-loop part₀ n letter e i₀ part i = (length part ≡ length part₀) × (e ≤ length part) × (i ≤ e)
 
 abbrev μ-loop : tie.MeasureT-loop
-μ-loop part₀ letter i₀ part i = length part₀ - i
+μ-loop part₀ n letter e i₀ part i = e - i
+
+lesser-requires : tie.Need-lesser-requires Inv-loop μ-loop
+lesser-requires c κs = tt
 
 loop-holds : tie.Need-loop-holds Inv-loop μ-loop
 loop-holds c = omega arith
@@ -42,6 +45,7 @@ flat-spec =
     (tie.spec
     Inv-loop
     μ-loop
+    lesser-requires
     loop-holds
     byte-requires
     slice-write-part

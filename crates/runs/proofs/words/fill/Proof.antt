@@ -7,10 +7,10 @@ use Rattle.runs.proofs.words.fill.Statement.{statement}
 use Rattle.runs.proofs.words.fill.Tie as tie
 
 abbrev Inv-loop : tie.InvT-loop
-Inv-loop part₀ alphabet start state₀ i₀ part state i = (length part ≡ length part₀) × (i ≤ length part)
+Inv-loop part₀ list spread alphabet start state₀ i₀ part state i = (length part ≡ length part₀) × (i ≤ length part)
 
 abbrev μ-loop : tie.MeasureT-loop
-μ-loop part₀ alphabet start state₀ i₀ part state i = length part₀ - i
+μ-loop part₀ list spread alphabet start state₀ i₀ part state i = length part₀ - i
 
 loop-holds : tie.Need-loop-holds Inv-loop μ-loop
 loop-holds c = omega arith
@@ -18,8 +18,8 @@ loop-holds c = omega arith
 next-requires : tie.Need-next-requires Inv-loop μ-loop
 next-requires c κs = tt
 
-letter-requires : tie.Need-letter-requires Inv-loop μ-loop
-letter-requires c κs = tt
+pick-requires : tie.Need-pick-requires Inv-loop μ-loop
+pick-requires c κs = tt
 
 mul-part : tie.Need-mul-part Inv-loop μ-loop
 mul-part c = omega arith
@@ -50,7 +50,7 @@ fill-spec =
     μ-loop
     loop-holds
     next-requires
-    letter-requires
+    pick-requires
     mul-part
     slice-write-part
     add-i
