@@ -2,7 +2,7 @@
 // cases, a line for each group with the number of cases and a digest of all that the calls gave.
 //
 // The expected output, the file `stdout` of this crate, was not made by this program. tests/runs/reference.c made it, by plain loops from the
-// definitions of document 01. It has the same edges and draws the same cases. What is changed here is changed there; the functions have the same names.
+// definitions of document 01. It has the same edges and draws the same cases. What is changed here is changed there; most functions have the same names.
 mod answers;
 mod bytes;
 mod cases;
