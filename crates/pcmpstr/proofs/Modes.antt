@@ -1,15 +1,16 @@
 -- What the loops of src/bytes.rt and src/words.rt compute, as numbers of b bits. Stated over b, which is 16 or 8. Assumes nothing.
-use Prim.Native.Nat.{ℕ, zero, suc, _+_, _*_, _-_, _/_, _^_, _≤_, _<_, min}
+use Prim.Native.Nat.{ℕ, zero, suc, _+_, _*_, _-_, _/_, _%_, _^_, _≤_, _<_, min}
 use mathlib.Core.Path.{_≡_, refl, sym, ap, subst, _∙_}
 use mathlib.Core.Bool.{Bool, true, false, cond, not, _&&_, _||_}
 use mathlib.Core.List.{List, [], _∷_, _++_}
-use native.Mathlib.Nat.{add-zero, add-suc, add-comm}
+use native.Mathlib.Nat.{add-zero, add-suc, add-comm, lt-of-le-of-lt, mod-eq-of-lt, mod-lt, zero-div, zero-mod}
 use native.Mathlib.Numerals.{add-one}
 use native.Mathlib.Omega.{arith}
 use lib.Dec.{eqb, ltb}
 use lib.ListN.{getD, replicate}
 use lib.IntN.{ℤ}
-use lib.Bits.{bitAnd, bitOr, bitXor, or-self, or-zero-l, or-zero-r}
+use lib.Bits.{bitAnd, bitOr, bitXor, and-le-l, and-mod, and-shr, or-self, or-zero-l, or-zero-r}
+use lib.Pow.{field, mod-mod-pow, pow-pos, shl-shr, shr-shr}
 use borrow.Author.Tests.{eq-eqb, ne-eqb, lt-ltb, le-ltb}
 use Rattle.bits.specs.Bits.{allBelow, numberOf, tabulate}
 use Rattle.bits.proofs.Below.{and-over-or, or-true, and-true, and-false, any-more-below, all-cut, by-order, number-same}
@@ -136,6 +137,35 @@ all-less p m n h e =
     let q : m + (n - m) ≡ n = omega arith in
     rw q at (all-fewer p m (n - m) e)
 
+-- Positions in a number of 32 bits that is shifted up by one a turn: after i turns they are its b bits from i on.
+-- An and with b bits sees b bits.
+and-low : (b a m : ℕ) → a < 2 ^ b → bitAnd a (m % 2 ^ b) ≡ bitAnd a m
+and-low b a m h =
+    ap (λ (x : ℕ). bitAnd x (m % 2 ^ b)) (sym (mod-eq-of-lt h))
+    ∙ sym (and-mod a m b)
+    ∙ mod-eq-of-lt (lt-of-le-of-lt (and-le-l a m) h)
+
+-- what is shifted out at the top is not among them
+up-down : (b i y : ℕ) → i + 1 + b ≤ 32 → (y * 2 ^ 1) % 2 ^ 32 / 2 ^ (i + 1) % 2 ^ b ≡ y / 2 ^ i % 2 ^ b
+up-down b i y h =
+    let n : 32 - (i + 1) + (i + 1) ≡ 32 = omega arith in
+    let m : 32 - (i + 1) - b + b ≡ 32 - (i + 1) = omega arith in
+    let k : 1 + i ≡ i + 1 = omega arith in
+    let f : (y * 2 ^ 1) % 2 ^ 32 / 2 ^ (i + 1) ≡ y / 2 ^ i % 2 ^ (32 - (i + 1)) =
+    subst (λ (t : ℕ). (y * 2 ^ 1) % 2 ^ t / 2 ^ (i + 1) ≡ (y * 2 ^ 1) / 2 ^ (i + 1) % 2 ^ (32 - (i + 1))) n (field (y * 2 ^ 1) (32 - (i + 1)) (i + 1))
+    ∙ ap (λ (x : ℕ). x % 2 ^ (32 - (i + 1)))
+    (subst (λ (t : ℕ). (y * 2 ^ 1) / 2 ^ t ≡ y / 2 ^ i) k (sym (shr-shr (y * 2 ^ 1) 1 i) ∙ ap (λ (x : ℕ). x / 2 ^ i) (shl-shr y 1))) in
+    ap (λ (x : ℕ). x % 2 ^ b) f
+    ∙ subst (λ (t : ℕ). y / 2 ^ i % 2 ^ t % 2 ^ b ≡ y / 2 ^ i % 2 ^ b) m (mod-mod-pow (y / 2 ^ i) (32 - (i + 1) - b) b)
+
+-- one turn, as it is seen from bit i on
+turned : (b i l m : ℕ) → i + 1 + b ≤ 32 → (bitAnd l m * 2 ^ 1) % 2 ^ 32 / 2 ^ (i + 1) % 2 ^ b ≡ bitAnd (l / 2 ^ i % 2 ^ b) (m / 2 ^ i)
+turned b i l m h =
+    up-down b i (bitAnd l m) h
+    ∙ ap (λ (x : ℕ). x % 2 ^ b) (and-shr l m i)
+    ∙ and-mod (l / 2 ^ i) (m / 2 ^ i) b
+    ∙ and-low b (l / 2 ^ i % 2 ^ b) (m / 2 ^ i) (mod-lt (l / 2 ^ i) (pow-pos b))
+
 -- the first i elements of operand 1 stand in operand 2 from j on
 abbrev pub standingTo : ℕ → List ℕ → ℕ → List ℕ → ℕ → ℕ → ℕ → Bool
 standingTo b x₁ l₁ x₂ l₂ i j = allBelow (min i (b - j)) (follows x₁ l₁ x₂ l₂ j)
@@ -180,6 +210,11 @@ module _ (b : ℕ) (x₁ : List ℕ) (l₁ : ℕ) (x₂ : List ℕ) (l₂ : ℕ)
         (number-and b (32 - b - i) (standingTo b x₁ l₁ x₂ l₂ i) (λ j. matching b x₁ x₂ l₂ i (i + j))
         ∙ number-same b _ _ (λ j w. more j))
 
+    -- the same of a number that is shifted
+    pub ordered-turn : (s v past l : ℕ) → s ≡ numberOf b (λ t. eqb (getD x₂ t 0) (getD x₁ i 0)) → v ≡ numberOf 16 (λ t. ltb t l₂) → past ≡ numberOf 32 (λ t. not (ltb t b)) → l / 2 ^ i % 2 ^ b ≡ numberOf b (standingTo b x₁ l₁ x₂ l₂ i) → (bitAnd l (bitOr (bitAnd s v) past) * 2 ^ 1) % 2 ^ 32 / 2 ^ (i + 1) % 2 ^ b ≡ numberOf b (standingTo b x₁ l₁ x₂ l₂ (i + 1))
+    ordered-turn s v past l d e g k =
+        turned b i l (bitOr (bitAnd s v) past) (omega arith) ∙ ordered-more s v past (l / 2 ^ i % 2 ^ b) d e g k
+
   pub ordered-end : (i : ℕ) → l₁ ≤ i → numberOf b (standingTo b x₁ l₁ x₂ l₂ i) ≡ numberOf b (orderedOf b x₁ l₁ x₂ l₂)
   ordered-end i u =
       number-same b (standingTo b x₁ l₁ x₂ l₂ i) (orderedOf b x₁ l₁ x₂ l₂)
@@ -191,3 +226,7 @@ module _ (b : ℕ) (x₁ : List ℕ) (l₁ : ℕ) (x₂ : List ℕ) (l₂ : ℕ)
       no-bits b
       ∙ number-same b (λ j. false) (orderedOf b x₁ l₁ x₂ l₂)
       (λ j w. sym (all-less (follows x₁ l₁ x₂ l₂ j) (min i (b - j)) (b - j) (omega arith) (number-zero b j (standingTo b x₁ l₁ x₂ l₂ i) w (sym e ∙ z))))
+
+  -- the same of a number that is shifted
+  pub ordered-stop : (i l : ℕ) → l / 2 ^ i % 2 ^ b ≡ numberOf b (standingTo b x₁ l₁ x₂ l₂ i) → l ≡ 0 → 0 ≡ numberOf b (orderedOf b x₁ l₁ x₂ l₂)
+  ordered-stop i l e z = ordered-none i (l / 2 ^ i % 2 ^ b) e (rw (z, zero-div (2 ^ i)) (zero-mod (2 ^ b)))

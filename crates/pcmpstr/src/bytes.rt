@@ -7,7 +7,7 @@ use crate::operand;
 ghost use mathlib.Core.Path.{_≡_};
 ghost use mathlib.Core.Bool.{cond, false, _&&_};
 ghost use Prim.Native.Nat.{_≤_};
-ghost use lib.Dec.{eqb};
+ghost use lib.Dec.{eqb, ltb};
 ghost use lib.ListN.{getD};
 ghost use lib.Bits.{bitOr};
 ghost use Rattle.bits.specs.Bits.{leastBelow, numberOf, tabulate};
@@ -107,25 +107,25 @@ pub fn equal_each(x1: &[u8; 16], l1: usize, x2: &[u8; 16], l2: usize) -> u32
     (bits::alike_bytes(x2, x1) & v1 & v2) | ((v1 | v2) ^ 0xffff)
 }
 
-// Bit j: the valid elements of x1 stand in x2 from j on, as far as its sixteen go. It stops once they stand nowhere, which it
-// asks from the second element on: whether a block holds the first one is hard to foretell, and a branch foretold wrongly costs more than
-// a compare. `(i + 15) / 16` is 0 at the first element and 1 after it.
-pub fn equal_ordered(x1: &[u8; 16], l1: usize, x2: &[u8; 16], l2: usize) -> u32
-    requires { ⌜ (l1 ≤ 16) × (l2 ≤ 16) ⌝ }
+// Bit j: the valid elements of x1 stand in x2 from j on, as far as its sixteen go. `valid` has the bits of the valid elements of x2: the
+// caller makes it, so that it is a constant where a block is whole.
+// After i elements, bit j + i of `left` tells of j. Past the block nothing is compared, so every bit from 16 on counts as equal. It stops
+// once nothing is left, but never after the first element: bit 30 is a mark that the second turn shifts out. Whether a block holds the
+// first element is hard to foretell, and a branch foretold wrongly costs more than a compare.
+pub fn equal_ordered(x1: &[u8; 16], l1: usize, x2: &[u8; 16], l2: usize, valid: u32) -> u32
+    requires { ⌜ (l1 ≤ 16) × (l2 ≤ 16) × (valid ≡ numberOf 16 (λ j. ltb j l2)) ⌝ }
     ensures { λ r. ⌜ r ≡ numberOf 16 (orderedOf 16 (now (x1 .entry)) l1 (now (x2 .entry)) l2) ⌝ }
 {
-    let valid = bits::first(l2);
-    let mut left = 0xffffu32;
+    let mut left = 0x4000ffffu32;
     let mut i = 0;
     while i < l1 {
-        let found = (bits::same_bytes(x2, x1[i]) & valid) | 0xffff0000;
-        left = left & (found >> (i as u32));
-        if left < ((i + 15) / 16) as u32 {
+        left = (left & ((bits::same_bytes(x2, x1[i]) & valid) | 0xffff0000)) << 1;
+        if left == 0 {
             return 0;
         }
         i += 1;
     }
-    left
+    (left >> (l1 as u32)) & 0xffff
 }
 
 // IntRes1.
@@ -138,7 +138,7 @@ fn aggregated(k: Control, x1: &[u8; 16], l1: usize, x2: &[u8; 16], l2: usize) ->
         Aggregation::EqualAny => equal_any(x1, l1, x2, l2),
         Aggregation::Ranges => ranges(k.signed, *x1, l1 / 2, *x2, l2),
         Aggregation::EqualEach => equal_each(x1, l1, x2, l2),
-        Aggregation::EqualOrdered => equal_ordered(x1, l1, x2, l2),
+        Aggregation::EqualOrdered => equal_ordered(x1, l1, x2, l2, bits::first(l2)),
     }
 }
 

@@ -154,7 +154,8 @@ pub fn pcmpestri_0c(operand1: [u8; 16], length1: usize, operand2: [u8; 16], leng
 {
     let l1 = operand::cut(16, length1);
     let l2 = operand::cut(16, length2);
-    bits::least(bytes::equal_ordered(&operand1, l1, &operand2, l2), 16)
+    let found = bytes::equal_ordered(&operand1, l1, &operand2, l2, bits::first(l2));
+    bits::least(found, 16)
 }
 
 // The index of `pcmpestri` at control 18h: where the operands first differ, in unsigned bytes.

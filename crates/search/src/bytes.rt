@@ -25,7 +25,10 @@ fn index(first: [u8; 16], l: usize, block: &[u8]) -> u32
     if block.len() == 16 {
         return pcmpstr::pcmpestri_0c(first, l, whole_bytes(block), 16);
     }
-    pcmpstr::pcmpestri_0c(first, l, padded_bytes(block), block.len())
+    let l1 = l as i32;
+    let l2 = block.len() as i32;
+    let answer = pcmpstr::pcmpestri(first, l1, padded_bytes(block), l2, 0x0c);
+    answer.index
 }
 
 // A piece of the needle and as many bytes of the text differ.

@@ -25,7 +25,10 @@ fn index(first: [u8; 16], l: usize, block: &[u16]) -> u32
     if block.len() == 8 {
         return pcmpstr::pcmpestri_0d(first, l, whole_words(block), 8);
     }
-    pcmpstr::pcmpestri_0d(first, l, padded_words(block), block.len())
+    let l1 = l as i32;
+    let l2 = block.len() as i32;
+    let answer = pcmpstr::pcmpestri(first, l1, padded_words(block), l2, 0x0d);
+    answer.index
 }
 
 // A piece of the needle and as many words of the text differ.

@@ -15,18 +15,21 @@ cut-requires c κs = search needs
 cut-requires-2 : tie.Need-cut-requires-2
 cut-requires-2 c κs = search needs
 
+first-requires : tie.Need-first-requires
+first-requires c κs = search needs
+
 equal-ordered-requires : tie.Need-equal-ordered-requires
 equal-ordered-requires c κs =
-    (omega (arith, c .before .before .before .cut .ensures), omega (arith, c .before .before .cut2 .ensures))
+    (omega (arith, c .before .before .before .before .cut .ensures), omega (arith, c .before .before .before .cut2 .ensures), c .first .ensures)
 
 least-requires : tie.Need-least-requires
 least-requires c κs = search needs
 
 returns : tie.Need-returns
 returns c =
-    let s = c .before .before .before .before .before .before in
-    let f = c .before .before .before .before .before .cut in
-    let g = c .before .before .before .before .cut2 in
+    let s = c .before .before .before .before .before .before .before in
+    let f = c .before .before .before .before .before .before .cut in
+    let g = c .before .before .before .before .before .cut2 in
     let l₁ = cut-explicit 16 (s .args .length1) (f .result) (f .ensures) in
     let l₂ = cut-explicit 16 (s .args .length2) (g .result) (g .ensures) in
     c .least .ensures
@@ -38,6 +41,7 @@ pcmpestri-0c-spec =
     (tie.spec
     cut-requires
     cut-requires-2
+    first-requires
     equal-ordered-requires
     least-requires
     returns)

@@ -27,6 +27,9 @@ equal-each-requires c κs = search needs
 enum-told-4 : tie.Need-enum-told-4
 enum-told-4 c = search needs
 
+first-requires : tie.Need-first-requires
+first-requires c κs = search needs
+
 equal-ordered-requires : tie.Need-equal-ordered-requires
 equal-ordered-requires c κs = search needs
 
@@ -50,9 +53,9 @@ returns-3 c =
 
 returns-4 : tie.Need-returns-4
 returns-4 c =
-    let s = c .before .before .before in
+    let s = c .before .before .before .before in
     let a = s .args in
-    c .equal-ordered .ensures ∙ ordered-is (a .k) false (s .pre .0) (a .x1 .now) (a .l1) (a .x2 .now) (a .l2) (s .pre .1) (c .before .enum-told4 .given .1)
+    c .equal-ordered .ensures ∙ ordered-is (a .k) false (s .pre .0) (a .x1 .now) (a .l1) (a .x2 .now) (a .l2) (s .pre .1) (c .before .before .enum-told4 .given .1)
 
 pub aggregated-spec : {M : Type 1} → statement M
 aggregated-spec =
@@ -65,6 +68,7 @@ aggregated-spec =
     enum-told-3
     equal-each-requires
     enum-told-4
+    first-requires
     equal-ordered-requires
     returns
     returns-2

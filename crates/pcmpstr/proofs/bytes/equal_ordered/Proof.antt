@@ -1,28 +1,26 @@
--- `pcmpstr::bytes::equal_ordered` meets its contract. The invariant: bit j of `left` says that the first i elements of x1 stand in x2 from j on,
--- as far as the block goes. Where none is left, no longer part stands either. Assumes nothing.
-use Prim.Native.Nat.{_≤_, _+_, _-_}
-use mathlib.Core.Path.{_≡_, _∙_}
+-- `pcmpstr::bytes::equal_ordered` meets its contract. The invariant: bit j of the sixteen bits from i on of `left` says that the first i elements of
+-- x1 stand in x2 from j on, as far as the block goes. Where `left` is 0, no longer part stands either. What else `left` holds, the mark
+-- too, is never looked at. Assumes nothing.
+use Prim.Native.Nat.{ℕ, _≤_, _+_, _-_, _/_, _%_, _^_}
+use mathlib.Core.Path.{_≡_, _∙_, ap}
+use lib.Bits.{and-mask}
 use Rattle.bits.specs.Bits.{numberOf}
 use Rattle.bits.proofs.Numbers.{sixteen-ones, past-sixteen}
-use Rattle.pcmpstr.proofs.Modes.{standingTo, ordered-start, ordered-more, ordered-none, ordered-end}
+use Rattle.pcmpstr.proofs.Modes.{standingTo, ordered-start, ordered-turn, ordered-stop, ordered-end}
 use borrow.Author.Needs.{needs}
 use native.Mathlib.Omega.{arith}
 use Rattle.pcmpstr.proofs.bytes.equal_ordered.Statement.{statement}
 use Rattle.pcmpstr.proofs.bytes.equal_ordered.Tie as tie
 
 abbrev Inv-loop : tie.InvT-loop
-Inv-loop x1 l1 x2 l2 valid left₀ i₀ left i = (i ≤ l1) × (left ≡ numberOf 16 (standingTo 16 x1 l1 x2 l2 i))
+Inv-loop x1 l1 x2 l2 valid left₀ i₀ left i = (i ≤ l1) × (left / 2 ^ i % 2 ^ 16 ≡ numberOf 16 (standingTo 16 x1 l1 x2 l2 i))
 
 abbrev μ-loop : tie.MeasureT-loop
 μ-loop x1 l1 x2 l2 valid left₀ i₀ left i = l1 - i
 
-first-requires : tie.Need-first-requires Inv-loop μ-loop
-first-requires c κs = search needs
-
 loop-holds : tie.Need-loop-holds Inv-loop μ-loop
 loop-holds c =
-    let s = c .before in
-    (omega arith, ordered-start 16 (s .args .x1 .now) (s .args .l1) (s .args .x2 .now) (s .args .l2) (omega arith) (s .pre .0) (s .pre .1) _ sixteen-ones)
+    (omega arith, ordered-start 16 (c .args .x1 .now) (c .args .l1) (c .args .x2 .now) (c .args .l2) (omega arith) (c .pre .0) (c .pre .1) _ sixteen-ones)
 
 element-copy-out-same-bytes : tie.Need-element-copy-out-same-bytes Inv-loop μ-loop
 element-copy-out-same-bytes c = search needs
@@ -30,24 +28,12 @@ element-copy-out-same-bytes c = search needs
 same-bytes-requires : tie.Need-same-bytes-requires Inv-loop μ-loop
 same-bytes-requires c κs = search needs
 
-cast-left : tie.Need-cast-left Inv-loop μ-loop
-cast-left c = search needs
-
-shr-left : tie.Need-shr-left Inv-loop μ-loop
-shr-left c = search needs
-
-add-if1 : tie.Need-add-if1 Inv-loop μ-loop
-add-if1 c = search needs
-
-cast-if1 : tie.Need-cast-if1 Inv-loop μ-loop
-cast-if1 c = search needs
-
 returns : tie.Need-returns Inv-loop μ-loop
 returns c =
     let l = c .before .before .before .before in
-    let s = l .before .before in
-    ordered-none 16 (s .args .x1 .now) (s .args .l1) (s .args .x2 .now) (s .args .l2) (omega arith) (s .pre .0) (s .pre .1) (l .loop .i + 1) _
-    (ordered-more 16 (s .args .x1 .now) (s .args .l1) (s .args .x2 .now) (s .args .l2) (omega arith) (s .pre .0) (s .pre .1) (l .loop .i) (c .before .before .before .loop-test .taken) (c .before .same-bytes .result) (l .before .first .result) _ (l .loop .left) (c .before .same-bytes .ensures) (l .before .first .ensures) past-sixteen (l .loop .inv .1))
+    let s = l .before in
+    ordered-stop 16 (s .args .x1 .now) (s .args .l1) (s .args .x2 .now) (s .args .l2) (omega arith) (s .pre .0) (s .pre .1) (l .loop .i + 1) _
+    (ordered-turn 16 (s .args .x1 .now) (s .args .l1) (s .args .x2 .now) (s .args .l2) (omega arith) (s .pre .0) (s .pre .1) (l .loop .i) (c .before .before .before .loop-test .taken) (c .before .same-bytes .result) (s .args .valid) _ (l .loop .left) (c .before .same-bytes .ensures) (s .pre .2) past-sixteen (l .loop .inv .1))
     (omega arith)
 
 add-i : tie.Need-add-i Inv-loop μ-loop
@@ -59,14 +45,23 @@ loop-less c = search needs
 loop-again : tie.Need-loop-again Inv-loop μ-loop
 loop-again c =
     let l = c .before .before .before .before in
-    let s = l .before .before in
-    (omega arith, ordered-more 16 (s .args .x1 .now) (s .args .l1) (s .args .x2 .now) (s .args .l2) (omega arith) (s .pre .0) (s .pre .1) (l .loop .i) (c .before .before .before .loop-test .taken) (c .before .same-bytes .result) (l .before .first .result) _ (l .loop .left) (c .before .same-bytes .ensures) (l .before .first .ensures) past-sixteen (l .loop .inv .1))
+    let s = l .before in
+    (omega arith, ordered-turn 16 (s .args .x1 .now) (s .args .l1) (s .args .x2 .now) (s .args .l2) (omega arith) (s .pre .0) (s .pre .1) (l .loop .i) (c .before .before .before .loop-test .taken) (c .before .same-bytes .result) (s .args .valid) _ (l .loop .left) (c .before .same-bytes .ensures) (s .pre .2) past-sixteen (l .loop .inv .1))
+
+cast-result : tie.Need-cast-result Inv-loop μ-loop
+cast-result c = search needs
+
+shr-result : tie.Need-shr-result Inv-loop μ-loop
+shr-result c = search needs
 
 returns-2 : tie.Need-returns-2 Inv-loop μ-loop
 returns-2 c =
     let l = c .before in
-    let s = l .before .before in
-    l .loop .inv .1
+    let s = l .before in
+    let e : s .args .l1 ≡ l .loop .i = omega arith in
+    and-mask (l .loop .left / 2 ^ s .args .l1) 16
+    ∙ ap (λ (n : ℕ). l .loop .left / 2 ^ n % 2 ^ 16) e
+    ∙ l .loop .inv .1
     ∙ ordered-end 16 (s .args .x1 .now) (s .args .l1) (s .args .x2 .now) (s .args .l2) (omega arith) (s .pre .0) (s .pre .1) (l .loop .i) (c .loop-test .left)
 
 pub equal-ordered-spec : {M : Type 1} → statement M
@@ -75,16 +70,13 @@ equal-ordered-spec =
     (tie.spec
     Inv-loop
     μ-loop
-    first-requires
     loop-holds
     element-copy-out-same-bytes
     same-bytes-requires
-    cast-left
-    shr-left
-    add-if1
-    cast-if1
     returns
     add-i
     loop-less
     loop-again
+    cast-result
+    shr-result
     returns-2)

@@ -2,8 +2,11 @@
 use mathlib.Core.Path.{_≡_, ap, _∙_}
 use lib.ListN.{length}
 use lib.IntN.{pos}
+use mir.Syntax.{w32}
+use mir.ValLaws.{toZ-pos}
 use native.Mathlib.Omega.{arith}
 use borrow.Author.Needs.{needs}
+use Rattle.pcmpstr.specs.declared.IndexAnswer.{IndexAnswer}
 use Rattle.pcmpstr.specs.Calls.{PCMPESTRI}
 use Rattle.search.proofs.bytes.index.Statement.{statement}
 use Rattle.search.proofs.bytes.index.Tie as tie
@@ -21,17 +24,25 @@ returns c =
     c .pcmpestri-0c .ensures
     ∙ (λ t. PCMPESTRI (a .first) (pos (a .l)) (c .before .whole-bytes .ensures t) (ap pos size t) 12 .index)
 
+cast-l1 : tie.Need-cast-l1
+cast-l1 c = search needs
+
+cast-l2 : tie.Need-cast-l2
+cast-l2 c = search needs
+
 padded-bytes-requires : tie.Need-padded-bytes-requires
 padded-bytes-requires c κs = search needs
 
-pcmpestri-0c-requires-2 : tie.Need-pcmpestri-0c-requires-2
-pcmpestri-0c-requires-2 c κs = search needs
+pcmpestri-requires : tie.Need-pcmpestri-requires
+pcmpestri-requires c κs = search needs
 
 returns-2 : tie.Need-returns-2
 returns-2 c =
     let a = c .before .before .before .before .args in
-    c .pcmpestri-0c2 .ensures
-    ∙ (λ t. PCMPESTRI (a .first) (pos (a .l)) (c .before .padded-bytes .ensures t) (pos (length (a .block .now))) 12 .index)
+    let l = toZ-pos w32 (a .l) (omega arith) in
+    let n = toZ-pos w32 (length (a .block .now)) (omega arith) in
+    ap (λ (r : IndexAnswer). r .index) (c .pcmpestri .ensures)
+    ∙ (λ t. PCMPESTRI (a .first) (l t) (c .before .padded-bytes .ensures t) (n t) 12 .index)
 
 pub index-spec : {M : Type 1} → statement M
 index-spec =
@@ -40,6 +51,8 @@ index-spec =
     whole-bytes-requires
     pcmpestri-0c-requires
     returns
+    cast-l1
+    cast-l2
     padded-bytes-requires
-    pcmpestri-0c-requires-2
+    pcmpestri-requires
     returns-2)

@@ -2,8 +2,11 @@
 use mathlib.Core.Path.{_≡_, ap, _∙_}
 use lib.ListN.{length}
 use lib.IntN.{pos}
+use mir.Syntax.{w32}
+use mir.ValLaws.{toZ-pos}
 use native.Mathlib.Omega.{arith}
 use borrow.Author.Needs.{needs}
+use Rattle.pcmpstr.specs.declared.IndexAnswer.{IndexAnswer}
 use Rattle.pcmpstr.specs.Calls.{PCMPESTRI}
 use Rattle.search.proofs.words.index.Statement.{statement}
 use Rattle.search.proofs.words.index.Tie as tie
@@ -21,17 +24,25 @@ returns c =
     c .pcmpestri-0d .ensures
     ∙ (λ t. PCMPESTRI (a .first) (pos (a .l)) (c .before .whole-words .ensures t) (ap pos size t) 13 .index)
 
+cast-l1 : tie.Need-cast-l1
+cast-l1 c = search needs
+
+cast-l2 : tie.Need-cast-l2
+cast-l2 c = search needs
+
 padded-words-requires : tie.Need-padded-words-requires
 padded-words-requires c κs = search needs
 
-pcmpestri-0d-requires-2 : tie.Need-pcmpestri-0d-requires-2
-pcmpestri-0d-requires-2 c κs = search needs
+pcmpestri-requires : tie.Need-pcmpestri-requires
+pcmpestri-requires c κs = search needs
 
 returns-2 : tie.Need-returns-2
 returns-2 c =
     let a = c .before .before .before .before .args in
-    c .pcmpestri-0d2 .ensures
-    ∙ (λ t. PCMPESTRI (a .first) (pos (a .l)) (c .before .padded-words .ensures t) (pos (length (a .block .now))) 13 .index)
+    let l = toZ-pos w32 (a .l) (omega arith) in
+    let n = toZ-pos w32 (length (a .block .now)) (omega arith) in
+    ap (λ (r : IndexAnswer). r .index) (c .pcmpestri .ensures)
+    ∙ (λ t. PCMPESTRI (a .first) (l t) (c .before .padded-words .ensures t) (n t) 13 .index)
 
 pub index-spec : {M : Type 1} → statement M
 index-spec =
@@ -40,6 +51,8 @@ index-spec =
     whole-words-requires
     pcmpestri-0d-requires
     returns
+    cast-l1
+    cast-l2
     padded-words-requires
-    pcmpestri-0d-requires-2
+    pcmpestri-requires
     returns-2)
