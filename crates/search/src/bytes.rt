@@ -17,7 +17,8 @@ ghost use Rattle.search.specs.Cursors.{longestNeedle, mostCompares, next
 ghost use Rattle.search.specs.Parts.{ended, laterAt, manyCompares, rested, stepped, total};
 
 // Where the needle's first piece first stands in a block of the text: `first` is the piece's operand and l its length. A whole block is filled
-// without a test for each byte.
+// without a test for each byte. A short one, at the text's end, goes through the generic call: so the quick entry has one caller, and the compiler
+// puts it there.
 fn index(first: [u8; 16], l: usize, block: &[u8]) -> u32
     requires { ⌜ (l ≤ 16) × (length (now block) ≤ 16) ⌝ }
     ensures { λ r. ⌜ r ≡ PCMPESTRI first (pos l) (operandOf false (now (block .entry))) (pos (length (now (block .entry)))) 12 .index ⌝ }
