@@ -120,6 +120,18 @@ each-made b x₁ l₁ x₂ l₂ e v w ones h h₁ h₂ o d f g =
     rw (d, first-cut b l₁ v h h₁ f, first-cut b l₂ w h h₂ g, o, number-both b (λ j. eqb (getD x₂ j 0) (getD x₁ j 0)) (λ j. ltb j l₁), number-both b (λ j. eqb (getD x₂ j 0) (getD x₁ j 0) && ltb j l₁) (λ j. ltb j l₂), number-or b (λ j. ltb j l₁) (λ j. ltb j l₂), number-xor b (λ j. ltb j l₁ || ltb j l₂) (λ j. true), number-or b (λ j. eqb (getD x₂ j 0) (getD x₁ j 0) && ltb j l₁ && ltb j l₂) (λ j. not (ltb j l₁ || ltb j l₂)))
     (number-same b _ (eachOf x₁ l₁ x₂ l₂) (λ i u. each-bit (ltb i l₁) (ltb i l₂) (eqb (getD x₂ i 0) (getD x₁ i 0))))
 
+-- two parts of one length differ at a valid element, or nowhere
+one-length : (t r : Bool) → (not r && t) ≡ not (override EqualEach t t r)
+one-length true true = refl
+one-length true false = refl
+one-length false true = refl
+one-length false false = refl
+
+pub differ-made : (b : ℕ) (x₁ x₂ : List ℕ) (l : ℕ) (e v ones : ℕ) → b ≤ 16 → l ≤ b → ones ≡ numberOf b (λ j. true) → e ≡ numberOf b (λ j. eqb (getD x₂ j 0) (getD x₁ j 0)) → v ≡ numberOf 16 (λ j. ltb j l) → bitAnd (bitXor e ones) v ≡ numberOf b (λ j. not (eachOf x₁ l x₂ l j))
+differ-made b x₁ x₂ l e v ones h h₁ o d f =
+    rw (d, first-cut b l v h h₁ f, o, number-xor b (λ j. eqb (getD x₂ j 0) (getD x₁ j 0)) (λ j. true), number-both b (λ j. not (eqb (getD x₂ j 0) (getD x₁ j 0))) (λ j. ltb j l))
+    (number-same b _ (λ j. not (eachOf x₁ l x₂ l j)) (λ i u. one-length (ltb i l) (eqb (getD x₂ i 0) (getD x₁ i 0))))
+
 -- ---- equal ordered
 
 ordered-bit : (v e : Bool) → (e && v || false) ≡ override EqualOrdered true v e

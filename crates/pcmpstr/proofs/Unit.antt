@@ -260,13 +260,14 @@ module _ (y₁ : List ℕ) (z₁ : ℤ) (y₂ : List ℕ) (z₂ : ℤ) (l₁ l�
       least-read 16 n (orderedOf 16 y₁ l₁ y₂ l₂) (omega arith) d
       ∙ (λ t. leastBelow 16 (orderedOf 16 y₁ (e₁ t) y₂ (e₂ t)))
 
-  pub each-index : (w : Bool) (ones : ℕ) → ones ≡ numberOf (count w) (λ j. true) → l₁ ≡ explicitLength (count w) z₁ → l₂ ≡ explicitLength (count w) z₂ → n ≡ numberOf (count w) (eachOf (elements w y₁) l₁ (elements w y₂) l₂) → cond (eqb (bitXor n ones) 0) (count w) (trailingZeros 32 (bitXor n ones)) ≡ PCMPESTRI y₁ z₁ y₂ z₂ (cond w 25 24) .index
+  -- the index, from the bits where the operands differ
+  pub differ-index : (w : Bool) → l₁ ≡ explicitLength (count w) z₁ → l₂ ≡ explicitLength (count w) z₂ → n ≡ numberOf (count w) (λ j. not (eachOf (elements w y₁) l₁ (elements w y₂) l₂ j)) → cond (eqb n 0) (count w) (trailingZeros 32 n) ≡ PCMPESTRI y₁ z₁ y₂ z₂ (cond w 25 24) .index
   unfolding PCMPESTRI controlOf indexOf intRes2 intRes1 boolRes
-  each-index true ones o e₁ e₂ d =
-      least-read 8 (bitXor n ones) (λ j. not (eachOf (wordsOf y₁) l₁ (wordsOf y₂) l₂ j)) (omega arith) (rw (d, o) (number-xor 8 (eachOf (wordsOf y₁) l₁ (wordsOf y₂) l₂) (λ j. true)))
+  differ-index true e₁ e₂ d =
+      least-read 8 n (λ j. not (eachOf (wordsOf y₁) l₁ (wordsOf y₂) l₂ j)) (omega arith) d
       ∙ (λ t. leastBelow 8 (λ j. not (eachOf (wordsOf y₁) (e₁ t) (wordsOf y₂) (e₂ t) j)))
-  each-index false ones o e₁ e₂ d =
-      least-read 16 (bitXor n ones) (λ j. not (eachOf y₁ l₁ y₂ l₂ j)) (omega arith) (rw (d, o) (number-xor 16 (eachOf y₁ l₁ y₂ l₂) (λ j. true)))
+  differ-index false e₁ e₂ d =
+      least-read 16 n (λ j. not (eachOf y₁ l₁ y₂ l₂ j)) (omega arith) d
       ∙ (λ t. leastBelow 16 (λ j. not (eachOf y₁ (e₁ t) y₂ (e₂ t) j)))
 
 -- ---- the operands of a call

@@ -5,7 +5,7 @@ use crate::Control;
 use crate::negation;
 use crate::operand;
 ghost use mathlib.Core.Path.{_≡_};
-ghost use mathlib.Core.Bool.{cond, false, _&&_};
+ghost use mathlib.Core.Bool.{cond, false, not, _&&_};
 ghost use Prim.Native.Nat.{_≤_};
 ghost use lib.Dec.{eqb, ltb};
 ghost use lib.ListN.{getD};
@@ -98,13 +98,27 @@ fn ranges(signed: bool, x1: [u8; 16], n: usize, x2: [u8; 16], l2: usize) -> u32
 }
 
 // Bit j: the elements at j are equal, or both invalid.
-pub fn equal_each(x1: &[u8; 16], l1: usize, x2: &[u8; 16], l2: usize) -> u32
+fn equal_each(x1: &[u8; 16], l1: usize, x2: &[u8; 16], l2: usize) -> u32
     requires { ⌜ (l1 ≤ 16) × (l2 ≤ 16) ⌝ }
     ensures { λ r. ⌜ r ≡ numberOf 16 (eachOf (now (x1 .entry)) l1 (now (x2 .entry)) l2) ⌝ }
 {
     let v1 = bits::first(l1);
     let v2 = bits::first(l2);
     (bits::alike_bytes(x2, x1) & v1 & v2) | ((v1 | v2) ^ 0xffff)
+}
+
+// Bit j: equal each, negated. Parts of one length, as a search compares them, differ at a valid element or nowhere.
+pub fn differ(x1: &[u8; 16], l1: usize, x2: &[u8; 16], l2: usize) -> u32
+    requires { ⌜ (l1 ≤ 16) × (l2 ≤ 16) ⌝ }
+    ensures { λ r. ⌜ r ≡ numberOf 16 (λ j. not (eachOf (now (x1 .entry)) l1 (now (x2 .entry)) l2 j)) ⌝ }
+{
+    let same = bits::alike_bytes(x2, x1);
+    if l1 == l2 {
+        return (same ^ 0xffff) & bits::first(l1);
+    }
+    let v1 = bits::first(l1);
+    let v2 = bits::first(l2);
+    ((same & v1 & v2) | ((v1 | v2) ^ 0xffff)) ^ 0xffff
 }
 
 // Bit j: the valid elements of x1 stand in x2 from j on, as far as its sixteen go. `valid` has the bits of the valid elements of x2: the

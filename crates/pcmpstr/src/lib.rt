@@ -164,7 +164,7 @@ pub fn pcmpestri_18(operand1: [u8; 16], length1: usize, operand2: [u8; 16], leng
 {
     let l1 = operand::cut(16, length1);
     let l2 = operand::cut(16, length2);
-    bits::least(bytes::equal_each(&operand1, l1, &operand2, l2) ^ 0xffff, 16)
+    bits::least(bytes::differ(&operand1, l1, &operand2, l2), 16)
 }
 
 // The index of `pcmpestri` at control 0Dh: where operand 1 first stands in operand 2, in unsigned words.
@@ -186,5 +186,5 @@ pub fn pcmpestri_19(operand1: [u8; 16], length1: usize, operand2: [u8; 16], leng
     let x2 = operand::words_of(operand2);
     let l1 = operand::cut(8, length1);
     let l2 = operand::cut(8, length2);
-    bits::least(words::equal_each(&x1, l1, &x2, l2) ^ 0xff, 8)
+    bits::least(words::differ(&x1, l1, &x2, l2), 8)
 }

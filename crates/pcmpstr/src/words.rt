@@ -5,7 +5,7 @@ use crate::Control;
 use crate::negation;
 use crate::operand;
 ghost use mathlib.Core.Path.{_≡_};
-ghost use mathlib.Core.Bool.{cond, true, _&&_};
+ghost use mathlib.Core.Bool.{cond, true, not, _&&_};
 ghost use Prim.Native.Nat.{_≤_};
 ghost use lib.Dec.{eqb};
 ghost use lib.ListN.{getD};
@@ -102,13 +102,27 @@ fn ranges(signed: bool, x1: [u16; 8], n: usize, x2: [u16; 8], l2: usize) -> u32
 }
 
 // Bit j: the elements at j are equal, or both invalid.
-pub fn equal_each(x1: &[u16; 8], l1: usize, x2: &[u16; 8], l2: usize) -> u32
+fn equal_each(x1: &[u16; 8], l1: usize, x2: &[u16; 8], l2: usize) -> u32
     requires { ⌜ (l1 ≤ 8) × (l2 ≤ 8) ⌝ }
     ensures { λ r. ⌜ r ≡ numberOf 8 (eachOf (now (x1 .entry)) l1 (now (x2 .entry)) l2) ⌝ }
 {
     let v1 = bits::first(l1);
     let v2 = bits::first(l2);
     (bits::alike_words(x2, x1) & v1 & v2) | ((v1 | v2) ^ 0xff)
+}
+
+// Bit j: equal each, negated. Parts of one length, as a search compares them, differ at a valid element or nowhere.
+pub fn differ(x1: &[u16; 8], l1: usize, x2: &[u16; 8], l2: usize) -> u32
+    requires { ⌜ (l1 ≤ 8) × (l2 ≤ 8) ⌝ }
+    ensures { λ r. ⌜ r ≡ numberOf 8 (λ j. not (eachOf (now (x1 .entry)) l1 (now (x2 .entry)) l2 j)) ⌝ }
+{
+    let same = bits::alike_words(x2, x1);
+    if l1 == l2 {
+        return (same ^ 0xff) & bits::first(l1);
+    }
+    let v1 = bits::first(l1);
+    let v2 = bits::first(l2);
+    ((same & v1 & v2) | ((v1 | v2) ^ 0xff)) ^ 0xff
 }
 
 // Bit j: the valid elements of x1 stand in x2 from j on, as far as its eight go. It stops once they stand nowhere, which it

@@ -1,11 +1,10 @@
--- `pcmpstr::pcmpestri_18` meets its contract: at that control IntRes2 is the number of the mode with every bit negated, and the index its least bit.
+-- `pcmpstr::pcmpestri_18` meets its contract: at that control IntRes2 is the number of `differ`, and the index its least bit.
 -- Assumes nothing.
 use mathlib.Core.Path.{_∙_}
 use mathlib.Core.Bool.{false}
 use lib.IntN.{pos}
 use native.Mathlib.Omega.{arith}
-use Rattle.pcmpstr.proofs.Unit.{cut-explicit, each-index}
-use Rattle.bits.proofs.Numbers.{sixteen-ones}
+use Rattle.pcmpstr.proofs.Unit.{cut-explicit, differ-index}
 use borrow.Author.Needs.{needs}
 use Rattle.pcmpstr.proofs.pcmpestri_18.Statement.{statement}
 use Rattle.pcmpstr.proofs.pcmpestri_18.Tie as tie
@@ -16,8 +15,8 @@ cut-requires c κs = search needs
 cut-requires-2 : tie.Need-cut-requires-2
 cut-requires-2 c κs = search needs
 
-equal-each-requires : tie.Need-equal-each-requires
-equal-each-requires c κs =
+differ-requires : tie.Need-differ-requires
+differ-requires c κs =
     (omega (arith, c .before .before .before .cut .ensures), omega (arith, c .before .before .cut2 .ensures))
 
 least-requires : tie.Need-least-requires
@@ -31,7 +30,7 @@ returns c =
     let l₁ = cut-explicit 16 (s .args .length1) (f .result) (f .ensures) in
     let l₂ = cut-explicit 16 (s .args .length2) (g .result) (g .ensures) in
     c .least .ensures
-    ∙ each-index (s .args .t1) (pos (s .args .length1)) (s .args .t3) (pos (s .args .length2)) (f .result) (g .result) (c .before .equal-each .result) false _ sixteen-ones l₁ l₂ (c .before .equal-each .ensures)
+    ∙ differ-index (s .args .t1) (pos (s .args .length1)) (s .args .t3) (pos (s .args .length2)) (f .result) (g .result) (c .before .differ .result) false l₁ l₂ (c .before .differ .ensures)
 
 pub pcmpestri-18-spec : {M : Type 1} → statement M
 pcmpestri-18-spec =
@@ -39,6 +38,6 @@ pcmpestri-18-spec =
     (tie.spec
     cut-requires
     cut-requires-2
-    equal-each-requires
+    differ-requires
     least-requires
     returns)

@@ -1,11 +1,10 @@
--- `pcmpstr::pcmpestri_19` meets its contract: at that control IntRes2 is the number of the mode with every bit negated, and the index its least bit.
+-- `pcmpstr::pcmpestri_19` meets its contract: at that control IntRes2 is the number of `differ`, and the index its least bit.
 -- Assumes nothing.
 use mathlib.Core.Path.{_∙_}
 use mathlib.Core.Bool.{true}
 use lib.IntN.{pos}
 use native.Mathlib.Omega.{arith}
-use Rattle.pcmpstr.proofs.Unit.{cut-explicit, each-index}
-use Rattle.bits.proofs.Numbers.{eight-ones}
+use Rattle.pcmpstr.proofs.Unit.{cut-explicit, differ-index}
 use borrow.Author.Needs.{needs}
 use Rattle.pcmpstr.proofs.pcmpestri_19.Statement.{statement}
 use Rattle.pcmpstr.proofs.pcmpestri_19.Tie as tie
@@ -22,8 +21,8 @@ cut-requires c κs = search needs
 cut-requires-2 : tie.Need-cut-requires-2
 cut-requires-2 c κs = search needs
 
-equal-each-requires : tie.Need-equal-each-requires
-equal-each-requires c κs =
+differ-requires : tie.Need-differ-requires
+differ-requires c κs =
     (omega (arith, c .before .before .before .cut .ensures), omega (arith, c .before .before .cut2 .ensures))
 
 least-requires : tie.Need-least-requires
@@ -37,7 +36,7 @@ returns c =
     let l₁ = cut-explicit 8 (s .args .length1) (f .result) (f .ensures) in
     let l₂ = cut-explicit 8 (s .args .length2) (g .result) (g .ensures) in
     c .least .ensures
-    ∙ each-index (s .args .operand1) (pos (s .args .length1)) (s .args .operand2) (pos (s .args .length2)) (f .result) (g .result) (c .before .equal-each .result) true _ eight-ones l₁ l₂ (rw (c .before .before .before .before .before .before .before .words-of .ensures, c .before .before .before .before .before .before .words-of2 .ensures) at (c .before .equal-each .ensures))
+    ∙ differ-index (s .args .operand1) (pos (s .args .length1)) (s .args .operand2) (pos (s .args .length2)) (f .result) (g .result) (c .before .differ .result) true l₁ l₂ (rw (c .before .before .before .before .before .before .before .words-of .ensures, c .before .before .before .before .before .before .words-of2 .ensures) at (c .before .differ .ensures))
 
 pub pcmpestri-19-spec : {M : Type 1} → statement M
 pcmpestri-19-spec =
@@ -47,6 +46,6 @@ pcmpestri-19-spec =
     words-of-requires-2
     cut-requires
     cut-requires-2
-    equal-each-requires
+    differ-requires
     least-requires
     returns)
