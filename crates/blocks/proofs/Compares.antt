@@ -1,11 +1,11 @@
 -- A compare of two parts. The unit sees operands that are zero past the part's end; by the theorem on valid elements its answer is that for the
 -- parts themselves. Assumes nothing.
-use Prim.Native.Nat.{ℕ, _+_, _*_, _/_, _%_, _≤_, _<_}
+use Prim.Native.Nat.{ℕ, _+_, _*_, _-_, _/_, _%_, _≤_, _<_}
 use mathlib.Core.Path.{_≡_, ap, _∙_}
 use mathlib.Core.Bool.{Bool, true, false, cond, not}
 use mathlib.Core.List.{List}
 use lib.Dec.{eqb}
-use lib.ListN.{length, getD}
+use lib.ListN.{length, getD, take, drop, length-take, length-drop}
 use lib.IntN.{ℤ, pos}
 use native.Mathlib.Omega.{arith}
 use borrow.Author.Tests.{eq-eqb, ne-eqb}
@@ -21,7 +21,10 @@ use Rattle.pcmpstr.specs.Parts.{eachOf}
 use Rattle.pcmpstr.proofs.ValidElements.{bits-same}
 use Rattle.blocks.specs.Blocks.{operandOf, compareIndex, eachNegated}
 
--- ---- the operand of a part
+-- ---- a part of a text, and its operand
+
+pub part-size : (i e : ℕ) (xs : List ℕ) → e ≤ length xs → length (take (e - i) (drop i xs)) ≡ e - i
+part-size i e xs h = rw (length-take, length-drop) (omega arith)
 
 -- two bytes make up the word
 word-back : (v : ℕ) → v % 256 + 256 * (v / 256) ≡ v

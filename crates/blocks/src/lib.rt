@@ -1,13 +1,13 @@
 // A text as the unit takes it: how long it may be, and operands of sixteen bytes filled from its parts, zero past the part's end. Document 01: "a
 // helper fills the sixteen bytes of the operand, zero past the part's end".
 //
-// Public calls: `whole_bytes` and `padded_bytes` for a part in bytes, `whole_words` and `padded_words` for one in words; and `lesser`, by which a
-// block's end is found. None asks anything of its arguments. The two of a pair say the same: of a part that is too long the first sixteen bytes, or
+// Public calls: `whole_bytes` and `padded_bytes` for a part in bytes, `whole_words` and `padded_words` for one in words; `bytes_differ_at` and
+// `words_differ_at`, a compare of two parts; and `lesser`, by which a block's end is found. None asks anything of its arguments. The two of a pair say the same: of a part that is too long the first sixteen bytes, or
 // eight words, are taken. `whole_..` is the quick one where the part is a whole block, `padded_..` where it is shorter.
 ghost use mathlib.Core.Path.{_≡_};
 ghost use mathlib.Core.Bool.{true, false};
 ghost use Prim.Native.Nat.{_/_, _%_, min};
-ghost use Rattle.blocks.specs.Blocks.{operandOf};
+ghost use Rattle.blocks.specs.Blocks.{compareIndex, eachNegated, operandOf};
 
 // The most elements of a text. Refusal number 2 of document 01: a text has more.
 pub const LONGEST_TEXT: usize = 1048576;
@@ -116,4 +116,46 @@ pub fn padded_words(part: &[u16]) -> [u8; 16]
         i += 1;
     }
     bytes
+}
+
+// The first place where two parts differ, or 16. A part that ends before the other differs there. The test for a whole block stands around the
+// compare, so that the compiler does not mix the two ways of filling.
+pub fn bytes_differ_at(x: &[u8], y: &[u8]) -> u32
+    ensures { λ r. ⌜ r ≡ compareIndex false eachNegated (now (x .entry)) (now (y .entry)) ⌝ }
+{
+    if x.len() != 16 {
+        return short_bytes_differ_at(x, y);
+    }
+    if y.len() != 16 {
+        return short_bytes_differ_at(x, y);
+    }
+    pcmpstr::pcmpestri_18(whole_bytes(x), 16, whole_bytes(y), 16)
+}
+
+// The same for parts of which one is no whole block.
+fn short_bytes_differ_at(x: &[u8], y: &[u8]) -> u32
+    ensures { λ r. ⌜ r ≡ compareIndex false eachNegated (now (x .entry)) (now (y .entry)) ⌝ }
+{
+    pcmpstr::pcmpestri_18(padded_bytes(x), x.len(), padded_bytes(y), y.len())
+}
+
+// The first place where two parts of words differ, or 8. A part that ends before the other differs there. The test for a whole block stands around the
+// compare, so that the compiler does not mix the two ways of filling.
+pub fn words_differ_at(x: &[u16], y: &[u16]) -> u32
+    ensures { λ r. ⌜ r ≡ compareIndex true eachNegated (now (x .entry)) (now (y .entry)) ⌝ }
+{
+    if x.len() != 8 {
+        return short_words_differ_at(x, y);
+    }
+    if y.len() != 8 {
+        return short_words_differ_at(x, y);
+    }
+    pcmpstr::pcmpestri_19(whole_words(x), 8, whole_words(y), 8)
+}
+
+// The same for parts of which one is no whole block.
+fn short_words_differ_at(x: &[u16], y: &[u16]) -> u32
+    ensures { λ r. ⌜ r ≡ compareIndex true eachNegated (now (x .entry)) (now (y .entry)) ⌝ }
+{
+    pcmpstr::pcmpestri_19(padded_words(x), x.len(), padded_words(y), y.len())
 }

@@ -287,7 +287,7 @@ fn range_sizes(words: bool) {
     );
 }
 
-// Bounds in and out of order, several ranges, and the zero element.
+// Bounds in and out of order, and several ranges.
 fn range_bounds(words: bool) {
     let several = four(A, C, 0x6171, 0x6173);
     range_line(
@@ -318,6 +318,11 @@ fn range_bounds(words: bool) {
         several,
         4,
     );
+}
+
+// The zero element: in no range, and in the second of two.
+fn range_zeros(words: bool) {
+    let several = four(A, C, 0x6171, 0x6173);
     range_line(
         words,
         b"range zero-in-none",
@@ -337,8 +342,6 @@ fn range_bounds(words: bool) {
 // Ranges that have other elements signed than unsigned. Words have FFFFh for FFh, 8000h for 80h and 7FFFh for 7Fh.
 fn range_signs(words: bool) {
     let most = at(words, 0xff, 0xffff);
-    let least = at(words, 0x80, 0x8000);
-    let top = at(words, 0x7f, 0x7fff);
     range_line(
         words,
         b"range ff-to-01",
@@ -353,6 +356,13 @@ fn range_signs(words: bool) {
         four(most, 1, 0, 0),
         2,
     );
+}
+
+// The same about 80h, where the signed ones begin anew.
+fn range_halves(words: bool) {
+    let most = at(words, 0xff, 0xffff);
+    let least = at(words, 0x80, 0x8000);
+    let top = at(words, 0x7f, 0x7fff);
     range_line(
         words,
         b"range 80-to-7f",
@@ -527,8 +537,6 @@ fn long_sets(words: bool) {
 fn long_ranges(words: bool) {
     let bounds = four(A, C, B, B);
     let text = flat(TOO_LONG, A);
-    let odd = size(words, 17, 9);
-    let above = size(words, 18, 10);
     long_line(
         words,
         b"range longest-text",
@@ -553,6 +561,14 @@ fn long_ranges(words: bool) {
         2,
         RANGES_UNSIGNED,
     );
+}
+
+// Two refusals at once: the lowest number wins.
+fn long_ranges_refused_twice(words: bool) {
+    let bounds = four(A, C, B, B);
+    let text = flat(TOO_LONG, A);
+    let odd = size(words, 17, 9);
+    let above = size(words, 18, 10);
     long_line(
         words,
         b"range text-too-long-b+2-bounds",
@@ -602,7 +618,9 @@ pub fn run(words: bool) {
     set_zeros(words);
     range_sizes(words);
     range_bounds(words);
+    range_zeros(words);
     range_signs(words);
+    range_halves(words);
     order_sizes(words);
     order_signs(words);
     if words {
@@ -611,5 +629,6 @@ pub fn run(words: bool) {
     places(words);
     long_sets(words);
     long_ranges(words);
+    long_ranges_refused_twice(words);
     long_orders(words);
 }

@@ -34,14 +34,9 @@ fn index(first: [u8; 16], l: usize, block: &[u8]) -> u32
 
 // A piece of the needle and as many bytes of the text differ.
 fn differ(piece: &[u8], part: &[u8]) -> bool
-    requires { ⌜ (length (now piece) ≤ 16) × (length (now part) ≡ length (now piece)) ⌝ }
     ensures { λ r. ⌜ r ≡ ltb (compareIndex false eachNegated (now (piece .entry)) (now (part .entry))) 16 ⌝ }
 {
-    if piece.len() == 16 {
-        return pcmpstr::pcmpestri_18(whole_bytes(piece), 16, whole_bytes(part), 16) < 16;
-    }
-    let l = piece.len();
-    pcmpstr::pcmpestri_18(padded_bytes(piece), l, padded_bytes(part), l) < 16
+    blocks::bytes_differ_at(piece, part) < 16
 }
 
 impl Cursor {

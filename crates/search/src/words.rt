@@ -34,14 +34,9 @@ fn index(first: [u8; 16], l: usize, block: &[u16]) -> u32
 
 // A piece of the needle and as many words of the text differ.
 fn differ(piece: &[u16], part: &[u16]) -> bool
-    requires { ⌜ (length (now piece) ≤ 8) × (length (now part) ≡ length (now piece)) ⌝ }
     ensures { λ r. ⌜ r ≡ ltb (compareIndex true eachNegated (now (piece .entry)) (now (part .entry))) 8 ⌝ }
 {
-    if piece.len() == 8 {
-        return pcmpstr::pcmpestri_19(whole_words(piece), 8, whole_words(part), 8) < 8;
-    }
-    let l = piece.len();
-    pcmpstr::pcmpestri_19(padded_words(piece), l, padded_words(part), l) < 8
+    blocks::words_differ_at(piece, part) < 8
 }
 
 impl Cursor {

@@ -99,21 +99,13 @@ module _ (words signed : Bool) (x y : List ℕ) where
     accepted : r ≡ 0 → eqb (orderRefusal (length x) (length y)) 0 ≡ true
     accepted z = eq-eqb (orderRefusal (length x) (length y)) 0 (sym e ∙ z)
 
-    two : (t : Bool) → r ≡ cond t 2 0 → 0 < r → r ≡ 2
-    two true q h = q
-    two false q h = absurd (omega arith)
-
-    number : 0 < r → r ≡ 2
-    unfolding orderRefusal
-    number h = two (ltb longestText (length x) || ltb longestText (length y)) e h
-
     pub answer-refused : 0 < r → _≡_ {A = OrderAnswer} (record { refusal = r; order = pos 0 }) (orderAnswer words signed x y)
     unfolding orderAnswer
-    answer-refused h = rw (refused h) (λ t. record { refusal = number h t; order = pos 0 })
+    answer-refused h = rw (refused h) (λ t. record { refusal = e t; order = pos 0 })
 
     pub answer-given : r ≡ 0 → (z : ℤ) → z ≡ order words signed x y → _≡_ {A = OrderAnswer} (record { refusal = 0; order = z }) (orderAnswer words signed x y)
     unfolding orderAnswer
-    answer-given h z q = rw (accepted h) (λ t. record { refusal = 0; order = q t })
+    answer-given h z q = rw (accepted h) (λ t. record { refusal = (sym h ∙ e) t; order = q t })
 
     -- the texts stand at p and q
     module _ {P : Type 0} (p q : P) where

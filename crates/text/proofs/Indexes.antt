@@ -6,7 +6,7 @@ use mathlib.Core.Bool.{Bool, true, false, cond, not, _&&_}
 use mathlib.Core.List.{List}
 use native.Mathlib.Omega.{arith}
 use lib.Dec.{eqb, ltb}
-use lib.ListN.{length, getD, take, drop, length-take, length-drop}
+use lib.ListN.{length, getD, take, drop}
 use lib.IntN.{ℤ, pos}
 use lib.Seq.{getD-take, getD-drop}
 use borrow.Author.Tests.{ltb-true, eqb-true, eqb-false, eq-eqb, ne-eqb}
@@ -21,7 +21,7 @@ use Rattle.pcmpstr.specs.Output.{indexOf}
 use Rattle.pcmpstr.specs.Calls.{PCMPESTRI}
 use Rattle.pcmpstr.proofs.Unit.{any-bit, ranges-bit}
 use Rattle.blocks.specs.Blocks.{operandOf, compareIndex, eachNegated}
-use Rattle.blocks.proofs.Compares.{parts-index, eachBit, each-is}
+use Rattle.blocks.proofs.Compares.{part-size, parts-index, eachBit, each-is}
 use Rattle.text.specs.Spans.{spanLength}
 use Rattle.text.specs.Orders.{difference}
 use Rattle.text.specs.Parts.{belongs, spanControl}
@@ -74,9 +74,6 @@ span-called words ranges signed list block o₁ o₂ z₁ z₂ c p₁ q₁ p₂ 
 
 -- ---- the part of a text from i to e
 
-part-length : (x : List ℕ) (i e : ℕ) → i ≤ e → e ≤ length x → length (take (e - i) (drop i x)) ≡ e - i
-part-length x i e h g = rw (length-take, length-drop) (omega arith)
-
 part-element : (x : List ℕ) (i e j : ℕ) → j < e - i → getD (take (e - i) (drop i x)) j 0 ≡ getD x (i + j) 0
 part-element x i e j h = getD-take (e - i) (drop i x) j 0 h ∙ getD-drop i x j 0
 
@@ -99,7 +96,7 @@ module _ (words ranges signed : Bool) (list text : List ℕ) where
     span-bits : k ≡ leastBelow (count words) (blockBit (count words) outsideAt true i (e - i))
     span-bits =
         let part : List ℕ = take (e - i) (drop i text) in
-        let size : length part ≡ e - i = part-length text i e (omega arith) (omega arith) in
+        let size : length part ≡ e - i = part-size i e text (omega arith) in
         hk
         ∙ span-index list part words ranges signed hl (omega arith)
         ∙ (λ t. leastBelow (count words) (λ j. cond (ltb j (size t)) (not (belongs words ranges signed list (getD part j 0))) true))
@@ -138,8 +135,8 @@ module _ (x y : List ℕ) where
     difference-bits =
         let u : List ℕ = take (e - i) (drop i x) in
         let v : List ℕ = take (e - i) (drop i y) in
-        let hu : length u ≡ e - i = part-length x i e (omega arith) (omega arith) in
-        let hv : length v ≡ e - i = part-length y i e (omega arith) (omega arith) in
+        let hu : length u ≡ e - i = part-size i e x (omega arith) in
+        let hv : length v ≡ e - i = part-size i e y (omega arith) in
         hk
         ∙ each-is words u v (omega arith) (omega arith)
         ∙ (λ t. leastBelow (count words) (λ j. each-bit u v (e - i) j hu hv t))

@@ -2,7 +2,7 @@
 -- the other, the shorter is smaller.
 use Prim.Native.Nat.{ℕ, _^_, _<_, min}
 use mathlib.Core.Path.{_≡_}
-use mathlib.Core.Bool.{Bool, true, false, cond, not, _||_}
+use mathlib.Core.Bool.{Bool, true, cond, not, _&&_, _||_}
 use mathlib.Core.List.{List, []}
 use lib.Dec.{eqb, ltb}
 use lib.ListN.{length, getD}
@@ -48,15 +48,15 @@ pub record IsOrder (words signed : Bool) : Type 0 where
 unfoldable pub orderRefusal : ℕ → ℕ → ℕ
 orderRefusal n m = cond (ltb longestText n || ltb longestText m) 2 0
 
+-- refused, the number and an order of 0
 unfoldable pub orderAnswer : Bool → Bool → List ℕ → List ℕ → OrderAnswer
 orderAnswer words signed x y =
-    cond (eqb (orderRefusal (length x) (length y)) 0) (record { refusal = 0; order = order words signed x y }) (record { refusal = 2; order = pos 0 })
+    record { refusal = orderRefusal (length x) (length y); order = cond (eqb (orderRefusal (length x) (length y)) 0) (order words signed x y) (pos 0) }
 
 -- the second text is given back: it is the smaller one, and the call is not refused
 unfoldable pub isSecond : Bool → Bool → List ℕ → List ℕ → Bool
-isSecond words signed x y = cond (eqb (orderRefusal (length x) (length y)) 0) (ltZ (pos 0) (order words signed x y)) false
+isSecond words signed x y = eqb (orderRefusal (length x) (length y)) 0 && ltZ (pos 0) (order words signed x y)
 
 -- the smaller text, the first when equal; refused, the empty front of the first
 unfoldable pub lesserText : Bool → Bool → List ℕ → List ℕ → List ℕ
-lesserText words signed x y =
-    cond (eqb (orderRefusal (length x) (length y)) 0) (cond (ltZ (pos 0) (order words signed x y)) y x) []
+lesserText words signed x y = cond (eqb (orderRefusal (length x) (length y)) 0) (cond (isSecond words signed x y) y x) []

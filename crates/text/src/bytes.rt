@@ -5,7 +5,7 @@ ghost use mathlib.Core.Bool.{cond, false};
 ghost use Prim.Native.Nat.{_≤_};
 ghost use lib.ListN.{length};
 ghost use lib.IntN.{pos};
-ghost use Rattle.blocks.specs.Blocks.{compareIndex, eachNegated, longestText, operandOf};
+ghost use Rattle.blocks.specs.Blocks.{longestText, operandOf};
 ghost use Rattle.pcmpstr.specs.Calls.{PCMPESTRI};
 ghost use Rattle.text.specs.Spans.{boundsRefusal, rangeSpan, setRefusal, setSpan, spanLength};
 ghost use Rattle.text.specs.Orders.{difference, isSecond, lesserText, order, orderAnswer, orderRefusal};
@@ -79,23 +79,6 @@ pub fn range_span<'a>(text: &'a [u8], bounds: &[u8], signed: bool) -> &'a [u8]
     &text[..k]
 }
 
-// The first place where two parts of one length differ, or 16.
-fn differ(x: &[u8], y: &[u8]) -> usize
-    requires { ⌜ (length (now x) ≤ 16) × (length (now y) ≡ length (now x)) ⌝ }
-    ensures { λ r. ⌜ r ≡ compareIndex false eachNegated (now (x .entry)) (now (y .entry)) ⌝ }
-{
-    if x.len() == 16 {
-        return pcmpstr::pcmpestri_18(
-            blocks::whole_bytes(x),
-            16,
-            blocks::whole_bytes(y),
-            16,
-        ) as usize;
-    }
-    let l = x.len();
-    pcmpstr::pcmpestri_18(blocks::padded_bytes(x), l, blocks::padded_bytes(y), l) as usize
-}
-
 // The first place where two texts differ, or the end of the shorter. Equal stretches go by in blocks.
 fn difference(first: &[u8], second: &[u8]) -> usize
     requires { ⌜ (length (now first) ≤ longestText) × (length (now second) ≤ longestText) ⌝ }
@@ -105,7 +88,7 @@ fn difference(first: &[u8], second: &[u8]) -> usize
     let mut i = 0;
     while i < n {
         let e = blocks::lesser(i + 16, n);
-        let k = differ(&first[i..e], &second[i..e]);
+        let k = blocks::bytes_differ_at(&first[i..e], &second[i..e]) as usize;
         if k < 16 {
             return i + k;
         }

@@ -5,7 +5,7 @@ ghost use mathlib.Core.Bool.{cond, true};
 ghost use Prim.Native.Nat.{_≤_};
 ghost use lib.ListN.{length};
 ghost use lib.IntN.{pos};
-ghost use Rattle.blocks.specs.Blocks.{compareIndex, eachNegated, longestText, operandOf};
+ghost use Rattle.blocks.specs.Blocks.{longestText, operandOf};
 ghost use Rattle.pcmpstr.specs.Calls.{PCMPESTRI};
 ghost use Rattle.text.specs.Spans.{boundsRefusal, rangeSpan, setRefusal, setSpan, spanLength};
 ghost use Rattle.text.specs.Orders.{difference, isSecond, lesserText, order, orderAnswer, orderRefusal};
@@ -79,18 +79,6 @@ pub fn range_span<'a>(text: &'a [u16], bounds: &[u16], signed: bool) -> &'a [u16
     &text[..k]
 }
 
-// The first place where two parts of one length differ, or 8.
-fn differ(x: &[u16], y: &[u16]) -> usize
-    requires { ⌜ (length (now x) ≤ 8) × (length (now y) ≡ length (now x)) ⌝ }
-    ensures { λ r. ⌜ r ≡ compareIndex true eachNegated (now (x .entry)) (now (y .entry)) ⌝ }
-{
-    if x.len() == 8 {
-        return pcmpstr::pcmpestri_19(blocks::whole_words(x), 8, blocks::whole_words(y), 8) as usize;
-    }
-    let l = x.len();
-    pcmpstr::pcmpestri_19(blocks::padded_words(x), l, blocks::padded_words(y), l) as usize
-}
-
 // The first place where two texts differ, or the end of the shorter. Equal stretches go by in blocks.
 fn difference(first: &[u16], second: &[u16]) -> usize
     requires { ⌜ (length (now first) ≤ longestText) × (length (now second) ≤ longestText) ⌝ }
@@ -100,7 +88,7 @@ fn difference(first: &[u16], second: &[u16]) -> usize
     let mut i = 0;
     while i < n {
         let e = blocks::lesser(i + 8, n);
-        let k = differ(&first[i..e], &second[i..e]);
+        let k = blocks::words_differ_at(&first[i..e], &second[i..e]) as usize;
         if k < 8 {
             return i + k;
         }

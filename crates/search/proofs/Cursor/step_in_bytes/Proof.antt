@@ -7,7 +7,7 @@ use native.Mathlib.Omega.{arith}
 use borrow.Author.Needs.{needs}
 use Rattle.search.specs.Walk.{onward}
 use Rattle.search.specs.Parts.{laterAt, stepped}
-use Rattle.search.proofs.Pieces.{part-size}
+use Rattle.blocks.proofs.Compares.{part-size}
 use Rattle.search.proofs.Steps.{first-called, first-most, step-fits, step-index, step-none}
 use Rattle.search.proofs.Loops.{rested-step}
 use Rattle.search.proofs.Cursor.step_in_bytes.Statement.{statement}

@@ -2,8 +2,8 @@
 use Prim.Native.Nat.{_-_, _≤_}
 use mathlib.Core.Path.{_≡_}
 use mathlib.Core.Bool.{false}
-use lib.ListN.{length-take, length-drop}
 use native.Mathlib.Omega.{arith}
+use borrow.Author.Needs.{needs}
 use Rattle.bits.specs.Bits.{leastBelow}
 use Rattle.text.proofs.Walks.{clear-to-start}
 use Rattle.text.proofs.Indexes.{differAt, difference-found, difference-goes-on, difference-none}
@@ -30,26 +30,29 @@ add-lesser c = omega (arith, c .before .before .lesser .ensures)
 lesser-requires-2 : tie.Need-lesser-requires-2 Inv-loop μ-loop
 lesser-requires-2 c κs = tt
 
-sub-differ : tie.Need-sub-differ Inv-loop μ-loop
-sub-differ c = omega (arith, c .lesser2 .ensures)
+sub-bytes-differ-at : tie.Need-sub-bytes-differ-at Inv-loop μ-loop
+sub-bytes-differ-at c = omega (arith, c .lesser2 .ensures)
 
-part-differ-start : tie.Need-part-differ-start Inv-loop μ-loop
-part-differ-start c = omega (arith, c .lesser2 .ensures)
+part-bytes-differ-at-start : tie.Need-part-bytes-differ-at-start Inv-loop μ-loop
+part-bytes-differ-at-start c = omega (arith, c .lesser2 .ensures)
 
-part-differ-end : tie.Need-part-differ-end Inv-loop μ-loop
-part-differ-end c = omega (arith, c .lesser2 .ensures, c .before .before .before .lesser .ensures)
+part-bytes-differ-at-end : tie.Need-part-bytes-differ-at-end Inv-loop μ-loop
+part-bytes-differ-at-end c = omega (arith, c .lesser2 .ensures, c .before .before .before .lesser .ensures)
 
-sub-differ-2 : tie.Need-sub-differ-2 Inv-loop μ-loop
-sub-differ-2 c = omega (arith, c .before .lesser2 .ensures)
+sub-bytes-differ-at-2 : tie.Need-sub-bytes-differ-at-2 Inv-loop μ-loop
+sub-bytes-differ-at-2 c = omega (arith, c .before .lesser2 .ensures)
 
-part-differ-start-2 : tie.Need-part-differ-start-2 Inv-loop μ-loop
-part-differ-start-2 c = omega (arith, c .before .lesser2 .ensures)
+part-bytes-differ-at-start-2 : tie.Need-part-bytes-differ-at-start-2 Inv-loop μ-loop
+part-bytes-differ-at-start-2 c = omega (arith, c .before .lesser2 .ensures)
 
-part-differ-end-2 : tie.Need-part-differ-end-2 Inv-loop μ-loop
-part-differ-end-2 c = omega (arith, c .before .lesser2 .ensures, c .before .before .before .before .lesser .ensures)
+part-bytes-differ-at-end-2 : tie.Need-part-bytes-differ-at-end-2 Inv-loop μ-loop
+part-bytes-differ-at-end-2 c = omega (arith, c .before .lesser2 .ensures, c .before .before .before .before .lesser .ensures)
 
-differ-requires : tie.Need-differ-requires Inv-loop μ-loop
-differ-requires c κs = rw (length-take, length-drop) (omega (arith, c .before .before .lesser2 .ensures), omega (arith, c .before .before .lesser2 .ensures, c .before .before .before .before .before .lesser .ensures))
+bytes-differ-at-requires : tie.Need-bytes-differ-at-requires Inv-loop μ-loop
+bytes-differ-at-requires c κs = tt
+
+cast-k : tie.Need-cast-k Inv-loop μ-loop
+cast-k c = search needs
 
 add-result : tie.Need-add-result Inv-loop μ-loop
 add-result c = omega (arith, c .before .before .before .before .before .before .before .lesser .ensures)
@@ -60,7 +63,7 @@ returns c =
     let a = l .before .before .before .before .args in
     let n = l .before .lesser .ensures in
     let e = c .before .before .before .before .lesser2 in
-    difference-found (a .first .now) (a .second .now) false (l .loop .i) (e .result) (c .before .differ .result) (rw n at (e .ensures)) (omega (arith, n)) (l .loop .inv .1) (c .before .differ .ensures) (omega arith)
+    difference-found (a .first .now) (a .second .now) false (l .loop .i) (e .result) (c .before .bytes-differ-at .result) (rw n at (e .ensures)) (omega (arith, n)) (l .loop .inv .1) (c .before .bytes-differ-at .ensures) (omega arith)
 
 loop-less : tie.Need-loop-less Inv-loop μ-loop
 loop-less c = omega (arith, c .before .before .before .before .lesser2 .ensures)
@@ -71,7 +74,7 @@ loop-again c =
     let a = l .before .before .before .before .args in
     let n = l .before .lesser .ensures in
     let e = c .before .before .before .before .lesser2 in
-    (omega (arith, e .ensures), difference-goes-on (a .first .now) (a .second .now) false (l .loop .i) (e .result) (c .before .differ .result) (rw n at (e .ensures)) (omega (arith, n)) (l .loop .inv .1) (c .before .differ .ensures) (omega arith))
+    (omega (arith, e .ensures), difference-goes-on (a .first .now) (a .second .now) false (l .loop .i) (e .result) (c .before .bytes-differ-at .result) (rw n at (e .ensures)) (omega (arith, n)) (l .loop .inv .1) (c .before .bytes-differ-at .ensures) (omega arith))
 
 returns-2 : tie.Need-returns-2 Inv-loop μ-loop
 returns-2 c =
@@ -89,13 +92,14 @@ difference-spec =
     loop-holds
     add-lesser
     lesser-requires-2
-    sub-differ
-    part-differ-start
-    part-differ-end
-    sub-differ-2
-    part-differ-start-2
-    part-differ-end-2
-    differ-requires
+    sub-bytes-differ-at
+    part-bytes-differ-at-start
+    part-bytes-differ-at-end
+    sub-bytes-differ-at-2
+    part-bytes-differ-at-start-2
+    part-bytes-differ-at-end-2
+    bytes-differ-at-requires
+    cast-k
     add-result
     returns
     loop-less

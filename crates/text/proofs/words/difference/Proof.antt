@@ -2,8 +2,8 @@
 use Prim.Native.Nat.{_-_, _≤_}
 use mathlib.Core.Path.{_≡_}
 use mathlib.Core.Bool.{true, false}
-use lib.ListN.{length-take, length-drop}
 use native.Mathlib.Omega.{arith}
+use borrow.Author.Needs.{needs}
 use Rattle.bits.specs.Bits.{leastBelow}
 use Rattle.text.proofs.Walks.{clear-to-start}
 use Rattle.text.proofs.Indexes.{differAt, difference-found, difference-goes-on, difference-none}
@@ -30,32 +30,35 @@ add-lesser c = omega (arith, c .before .before .lesser .ensures)
 lesser-requires-2 : tie.Need-lesser-requires-2 Inv-loop μ-loop
 lesser-requires-2 c κs = tt
 
-mul-differ : tie.Need-mul-differ Inv-loop μ-loop
-mul-differ c = omega arith
+mul-words-differ-at : tie.Need-mul-words-differ-at Inv-loop μ-loop
+mul-words-differ-at c = omega arith
 
-sub-differ : tie.Need-sub-differ Inv-loop μ-loop
-sub-differ c = omega (arith, c .lesser2 .ensures)
+sub-words-differ-at : tie.Need-sub-words-differ-at Inv-loop μ-loop
+sub-words-differ-at c = omega (arith, c .lesser2 .ensures)
 
-part-differ-start : tie.Need-part-differ-start Inv-loop μ-loop
-part-differ-start c = omega (arith, c .lesser2 .ensures)
+part-words-differ-at-start : tie.Need-part-words-differ-at-start Inv-loop μ-loop
+part-words-differ-at-start c = omega (arith, c .lesser2 .ensures)
 
-part-differ-end : tie.Need-part-differ-end Inv-loop μ-loop
-part-differ-end c = omega (arith, c .lesser2 .ensures, c .before .before .before .lesser .ensures)
+part-words-differ-at-end : tie.Need-part-words-differ-at-end Inv-loop μ-loop
+part-words-differ-at-end c = omega (arith, c .lesser2 .ensures, c .before .before .before .lesser .ensures)
 
-mul-differ-2 : tie.Need-mul-differ-2 Inv-loop μ-loop
-mul-differ-2 c = omega arith
+mul-words-differ-at-2 : tie.Need-mul-words-differ-at-2 Inv-loop μ-loop
+mul-words-differ-at-2 c = omega arith
 
-sub-differ-2 : tie.Need-sub-differ-2 Inv-loop μ-loop
-sub-differ-2 c = omega (arith, c .before .lesser2 .ensures)
+sub-words-differ-at-2 : tie.Need-sub-words-differ-at-2 Inv-loop μ-loop
+sub-words-differ-at-2 c = omega (arith, c .before .lesser2 .ensures)
 
-part-differ-start-2 : tie.Need-part-differ-start-2 Inv-loop μ-loop
-part-differ-start-2 c = omega (arith, c .before .lesser2 .ensures)
+part-words-differ-at-start-2 : tie.Need-part-words-differ-at-start-2 Inv-loop μ-loop
+part-words-differ-at-start-2 c = omega (arith, c .before .lesser2 .ensures)
 
-part-differ-end-2 : tie.Need-part-differ-end-2 Inv-loop μ-loop
-part-differ-end-2 c = omega (arith, c .before .lesser2 .ensures, c .before .before .before .before .lesser .ensures)
+part-words-differ-at-end-2 : tie.Need-part-words-differ-at-end-2 Inv-loop μ-loop
+part-words-differ-at-end-2 c = omega (arith, c .before .lesser2 .ensures, c .before .before .before .before .lesser .ensures)
 
-differ-requires : tie.Need-differ-requires Inv-loop μ-loop
-differ-requires c κs = rw (length-take, length-drop) (omega (arith, c .before .before .lesser2 .ensures), omega (arith, c .before .before .lesser2 .ensures, c .before .before .before .before .before .lesser .ensures))
+words-differ-at-requires : tie.Need-words-differ-at-requires Inv-loop μ-loop
+words-differ-at-requires c κs = tt
+
+cast-k : tie.Need-cast-k Inv-loop μ-loop
+cast-k c = search needs
 
 add-result : tie.Need-add-result Inv-loop μ-loop
 add-result c = omega (arith, c .before .before .before .before .before .before .before .lesser .ensures)
@@ -66,7 +69,7 @@ returns c =
     let a = l .before .before .before .before .args in
     let n = l .before .lesser .ensures in
     let e = c .before .before .before .before .lesser2 in
-    difference-found (a .first .now) (a .second .now) true (l .loop .i) (e .result) (c .before .differ .result) (rw n at (e .ensures)) (omega (arith, n)) (l .loop .inv .1) (c .before .differ .ensures) (omega arith)
+    difference-found (a .first .now) (a .second .now) true (l .loop .i) (e .result) (c .before .words-differ-at .result) (rw n at (e .ensures)) (omega (arith, n)) (l .loop .inv .1) (c .before .words-differ-at .ensures) (omega arith)
 
 loop-less : tie.Need-loop-less Inv-loop μ-loop
 loop-less c = omega (arith, c .before .before .before .before .lesser2 .ensures)
@@ -77,7 +80,7 @@ loop-again c =
     let a = l .before .before .before .before .args in
     let n = l .before .lesser .ensures in
     let e = c .before .before .before .before .lesser2 in
-    (omega (arith, e .ensures), difference-goes-on (a .first .now) (a .second .now) true (l .loop .i) (e .result) (c .before .differ .result) (rw n at (e .ensures)) (omega (arith, n)) (l .loop .inv .1) (c .before .differ .ensures) (omega arith))
+    (omega (arith, e .ensures), difference-goes-on (a .first .now) (a .second .now) true (l .loop .i) (e .result) (c .before .words-differ-at .result) (rw n at (e .ensures)) (omega (arith, n)) (l .loop .inv .1) (c .before .words-differ-at .ensures) (omega arith))
 
 returns-2 : tie.Need-returns-2 Inv-loop μ-loop
 returns-2 c =
@@ -95,15 +98,16 @@ difference-spec =
     loop-holds
     add-lesser
     lesser-requires-2
-    mul-differ
-    sub-differ
-    part-differ-start
-    part-differ-end
-    mul-differ-2
-    sub-differ-2
-    part-differ-start-2
-    part-differ-end-2
-    differ-requires
+    mul-words-differ-at
+    sub-words-differ-at
+    part-words-differ-at-start
+    part-words-differ-at-end
+    mul-words-differ-at-2
+    sub-words-differ-at-2
+    part-words-differ-at-start-2
+    part-words-differ-at-end-2
+    words-differ-at-requires
+    cast-k
     add-result
     returns
     loop-less
