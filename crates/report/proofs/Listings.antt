@@ -1,0 +1,91 @@
+-- The lines for a text and a needle: how long they are, and that they are put at the front of a page. No report is longer than `longestReport`. Assumes nothing.
+use Prim.Native.Nat.{ℕ, zero, suc, _+_, _-_, _*_, _/_, _≤_, _<_}
+use mathlib.Core.Path.{_≡_, refl, sym, ap, _∙_}
+use mathlib.Core.Bool.{Bool, true, false}
+use mathlib.Core.List.{List, _++_}
+use mathlib.Core.Logic.{by-cases}
+use lib.Dec.{ltb}
+use lib.ListN.{length, take, drop, length-append, length-drop}
+use native.Mathlib.Decide.{decLt, ℕ-discrete}
+use native.Mathlib.Nat.{mul-le-mul}
+use native.Mathlib.Omega.{arith}
+use native.Mathlib.Numerals.{add-one}
+use Rattle.bits.proofs.Below.{by-test}
+use Rattle.search.specs.Positions.{positions}
+use Rattle.search.specs.Walk.{bound}
+use Rattle.search.specs.Cursors.{longestNeedle}
+use Rattle.search.proofs.Lists.{calls-find-all}
+use Rattle.report.specs.declared.Tally.{Tally}
+use Rattle.report.specs.Report.{feedAt, needleOf, textOf, longestInput, longestReport, refusalOf, numberLine, matchLines, totalsLine, comparesFor, listing, reportOf, Put}
+use Rattle.report.specs.Parts.{Found}
+use Rattle.report.proofs.Inputs.{feed-within, length-needle, too-long, no-feed, long-needle, no-refusal}
+use Rattle.report.proofs.Lines.{length-number, length-totals, length-lines, position-within, positions-few}
+use Rattle.report.proofs.Pages.{tail, line-put, part-put, put-all}
+
+bound-few : (n m : ℕ) → n < longestInput → m ≤ longestNeedle → bound false n m ≤ 4194304
+bound-few n m h g =
+    let most : n - m + 1 ≤ 65536 = omega arith in
+    let pieces : (m + 16 - 1) / 16 ≤ 64 = omega arith in
+    by-test (ltb n m) (λ e. rw e (omega arith)) (λ e. rw e (omega (arith, mul-le-mul most pieces)))
+
+module _ (text needle : List ℕ) (small : length text < longestInput) (short : length needle ≤ longestNeedle) where
+  pub matches-few : length (positions text needle) ≤ 65536
+  matches-few = omega (arith, positions-few text needle)
+
+  pub compares-few : comparesFor text needle < 10000000000
+  compares-few =
+      let all = calls-find-all false text needle (suc (length (positions text needle))) (omega arith) short in
+      omega (arith, all .bounded, bound-few (length text) (length needle) small short)
+
+  length-matches : length (matchLines (positions text needle)) ≡ length (positions text needle) * 9
+  length-matches = length-lines (positions text needle) (λ i l. omega (arith, position-within text needle i l))
+
+  pub length-listing : length (listing text needle) ≡ length (positions text needle) * 9 + 19
+  unfolding listing
+  length-listing =
+      rw (length-append, length-matches, length-totals (length (positions text needle)) (comparesFor text needle) (omega (arith, matches-few)) compares-few)
+
+  pub listing-fits : length (listing text needle) ≤ longestReport
+  listing-fits = omega (arith, length-listing, matches-few)
+
+  -- the lines of the matches are on the page, and then the totals are put after them
+  pub listing-put : (t : Tally) (b page part : List ℕ) → Found text needle b page t → length (listing text needle) ≤ length b
+      → part ≡ totalsLine (t .matches) (t .cursor .compares) ++ drop 19 (take (length page - t .matches * 9) (drop (t .matches * 9) page))
+      → Put (listing text needle) b (take (t .matches * 9) page ++ (part ++ drop (length page - t .matches * 9) (drop (t .matches * 9) page))) (t .matches * 9 + 19)
+  unfolding listing
+  listing-put t b page part found room e =
+      let k = length (positions text needle) in
+      let x = totalsLine (t .matches) (t .cursor .compares) in
+      put-all (listing text needle) b (take (t .matches * 9) page ++ (part ++ drop (length page - t .matches * 9) (drop (t .matches * 9) page))) (t .matches * 9 + 19) room
+      (rw (found .matches) (sym length-listing))
+      (part-put x page part (t .matches * 9) 19 e
+      ∙ rw (length-listing, found .matches, found .compares) (line-put (matchLines (positions text needle)) (totalsLine k (comparesFor text needle)) b page (k * 9) 19 length-matches (found .page (omega (arith, length-listing)))))
+
+-- ---- the report
+
+pub report-refused : (input : List ℕ) (r : ℕ) → refusalOf input ≡ suc r → reportOf input ≡ numberLine (suc r)
+unfolding reportOf
+report-refused input r e = rw e
+
+report-listed : (input : List ℕ) → refusalOf input ≡ 0 → reportOf input ≡ listing (textOf input) (needleOf input)
+unfolding reportOf
+report-listed input e = rw e
+
+-- the parts of the input as the code hands them on
+pub report-parts : (input : List ℕ) (at : ℕ) → at ≡ feedAt input → refusalOf input ≡ 0 → listing (take (length input - (at + 1)) (drop (at + 1) input)) (take at input) ≡ reportOf input
+report-parts input at e none = rw (tail input (at + 1), e, add-one) (sym (report-listed input none))
+
+text-small : (input : List ℕ) → length input ≤ longestInput → (feedAt input ≡ length input → ⊥) → length (textOf input) < longestInput
+text-small input h n = rw length-drop (omega (arith, feed-within input))
+
+-- Every report fits a page of `longestReport` bytes.
+pub report-fits : (input : List ℕ) → length (reportOf input) ≤ longestReport
+report-fits input =
+    by-cases (decLt longestInput (length input)) (λ h. one 6 (omega arith) (too-long input h))
+    (λ h. by-cases (ℕ-discrete (feedAt input) (length input)) (λ e. one 5 (omega arith) (no-feed input (omega arith) e))
+    (λ n. by-cases (decLt longestNeedle (feedAt input)) (λ g. one 2 (omega arith) (long-needle input (omega arith) n g))
+    (λ g. rw (report-listed input (no-refusal input (omega arith) n (omega arith)))
+    (listing-fits (textOf input) (needleOf input) (text-small input (omega arith) n) (rw length-needle (omega arith))))))
+  where
+    one : (r : ℕ) → r < 7 → refusalOf input ≡ suc r → length (reportOf input) ≤ longestReport
+    one r h e = rw (report-refused input r e, length-number (suc r) (omega arith)) (omega arith)

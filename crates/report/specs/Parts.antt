@@ -1,0 +1,40 @@
+-- What the parts of the report say, for the contracts of its private functions. A reader of the public call needs none of it.
+use Prim.Native.Nat.{ℕ, _+_, _*_, _≤_, _<_}
+use mathlib.Core.Path.{_≡_}
+use mathlib.Core.Bool.{Bool, true, false, cond}
+use mathlib.Core.List.{List, _++_}
+use lib.Dec.{ltb}
+use lib.ListN.{length, take, drop}
+use Rattle.search.specs.declared.Cursor.{Cursor}
+use Rattle.search.specs.declared.Next.{Next}
+use Rattle.search.specs.declared.Next.the-variants.{Match, Absent, Refused}
+use Rattle.search.specs.Positions.{positions}
+use Rattle.report.specs.declared.Tally.{Tally}
+use Rattle.report.specs.Report.{numberLine, matchLines, comparesFor}
+
+abbrev pub tallyOf : ℕ → Cursor → Bool → Tally
+tallyOf matches cursor more = record { matches = matches; cursor = cursor; more = more }
+
+-- the tally after a call's answer
+abbrev pub afterNext : Tally → Next → Tally
+afterNext t (Match p c) = tallyOf (t .matches + 1) c true
+afterNext t (Absent c) = tallyOf (t .matches) c false
+afterNext t (Refused r c) = tallyOf (t .matches) c false
+
+-- a match's position has at most 8 digits
+abbrev pub Small : Next → Type 0
+Small (Match p c) = p < 100000000
+Small (Absent c) = Unit {0}
+Small (Refused r c) = Unit {0}
+
+-- a page with the line of a match, where there is one, from byte `at` on, if it fits there
+abbrev pub withMatch : Next → ℕ → List ℕ → List ℕ
+withMatch (Match p c) at page = cond (ltb (length page) (at + 9)) page (take at page ++ (numberLine p ++ drop (at + 9) page))
+withMatch (Absent c) at page = page
+withMatch (Refused r c) at page = page
+
+-- Every match was found, at the walk's count, and a page with room for their lines has them at its front.
+pub record Found (text needle before after : List ℕ) (t : Tally) : Type 0 where
+  pub matches : t .matches ≡ length (positions text needle)
+  pub compares : t .cursor .compares ≡ comparesFor text needle
+  pub page : length (positions text needle) * 9 ≤ length before → after ≡ matchLines (positions text needle) ++ drop (length (positions text needle) * 9) before
