@@ -1,53 +1,67 @@
-// The program `hits`: it reads a needle, a line feed and a text from standard input, and prints where the needle stands in the text, as document 01 says.
+// The program `hits`: it reads a needle, a line feed and a text from standard input, and prints where the needle stands in the text (document 01, "The program `hits`").
 //
-// All that it prints is proved in the crate `report`. This program reads, calls it, and writes.
+// All that it prints is defined and proved in the crate `report`. This program reads, calls it, and writes.
 use libc::STDIN_FILENO;
 use libc::STDOUT_FILENO;
+ghost use Rattle.hits.specs.Reads.{Within};
 
-// One byte more than the longest input, so that a longer one is seen to be too long without being read to its end.
+// One byte more than the longest input: a longer one is seen to be too long, and need not be read to its end.
 const ROOM: usize = 65537;
 
-// What came of reading: how many bytes, or a failure.
+// What reading came to: how many bytes, or a read that failed.
 enum Got {
     Bytes(usize),
     Failed,
 }
 
+// Reads once: how many bytes came, 0 where the input has ended.
+fn read_part(part: &mut [u8]) -> Got
+    ensures { λ r. ⌜ Within r (now (part .exit)) ⌝ }
+{
+    let got = libc::read(STDIN_FILENO, part);
+    if got < 0 {
+        return Got::Failed;
+    }
+    Got::Bytes(io::count(got, part))
+}
+
 // Reads until the input ends or the buffer is full.
-fn read_input(buffer: &mut [u8]) -> Got {
+fn read_input(buffer: &mut [u8]) -> Got
+    ensures { λ r. ⌜ Within r (now (buffer .exit)) ⌝ }
+{
     let mut n = 0;
     while n < buffer.len() {
-        let got = libc::read(STDIN_FILENO, &mut buffer[n..]);
-        if got < 0 {
+        let Got::Bytes(more) = read_part(&mut buffer[n..]) else {
             return Got::Failed;
-        }
-        if got == 0 {
+        };
+        if more == 0 {
             return Got::Bytes(n);
         }
-        n += got as usize;
+        n += more;
     }
     Got::Bytes(n)
 }
 
-// Writes all of it, in one call of the system where that takes all, and ends at a write that fails.
+// Writes all of it, in one call of the system where that takes all. It stops at a write that fails.
 fn write_output(bytes: &[u8]) {
     let mut n = 0;
     while n < bytes.len() {
-        let put = libc::write(STDOUT_FILENO, &bytes[n..]);
-        if put <= 0 {
+        let put = io::count(libc::write(STDOUT_FILENO, &bytes[n..]), &bytes[n..]);
+        if put == 0 {
             return;
         }
-        n += put as usize;
+        n += put;
     }
 }
 
-// Writes the report on an input.
+// Writes the report on an input. The page is long enough for every report.
 fn answer(input: &[u8]) {
     let mut page = [0u8; report::LONGEST_REPORT];
     let n = report::report(input, &mut page);
     write_output(&page[..n]);
 }
 
+// A failed read ends the program with nothing written.
 fn main() {
     let mut buffer = [0u8; ROOM];
     let got = read_input(&mut buffer);

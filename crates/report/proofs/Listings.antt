@@ -20,7 +20,7 @@ use Rattle.report.specs.Report.{feedAt, needleOf, textOf, longestInput, 
 use Rattle.report.specs.Parts.{Found}
 use Rattle.report.proofs.Inputs.{feed-within, length-needle, too-long, no-feed, long-needle, no-refusal}
 use Rattle.report.proofs.Lines.{length-number, length-totals, length-lines, position-within, positions-few}
-use Rattle.report.proofs.Pages.{tail, line-put, part-put, put-all}
+use Rattle.report.proofs.Pages.{tail, line-put, part-put, put-all, put-whole}
 
 bound-few : (n m : ℕ) → n < longestInput → m ≤ longestNeedle → bound false n m ≤ 4194304
 bound-few n m h g =
@@ -89,3 +89,7 @@ report-fits input =
   where
     one : (r : ℕ) → r < 7 → refusalOf input ≡ suc r → length (reportOf input) ≤ longestReport
     one r h e = rw (report-refused input r e, length-number (suc r) (omega arith)) (omega arith)
+
+-- A page of `longestReport` bytes gets the whole report of every input.
+pub report-whole : (input before after : List ℕ) (r : ℕ) → longestReport ≤ length before → Put (reportOf input) before after r → take r after ≡ reportOf input
+report-whole input before after r h p = put-whole (reportOf input) before after r (omega (arith, report-fits input)) p

@@ -5,6 +5,8 @@ use mathlib.Core.List.{List, [], _∷_, _++_, append-assoc, append-nil}
 use lib.ListN.{length, getD, take, drop, set, length-append, length-drop}
 use lib.Seq.{take-all, drop-cons, drop-drop, drop-length, set-at, take-at, drop-at, drop-append-add}
 use native.Mathlib.Omega.{arith}
+use mathlib.Core.Logic.{by-cases}
+use native.Mathlib.Decide.{decLt}
 use borrow.Author.Tests.{lt-ltb, le-ltb}
 use Rattle.decimal.specs.Decimal.{column, written}
 use Rattle.decimal.proofs.Columns.{length-column, writes}
@@ -60,7 +62,7 @@ length-kept x b n e h = rw (length-append, length-drop) (omega arith)
 pub line-put : (front x b page : List ℕ) (n w : ℕ) → length front ≡ n → page ≡ front ++ drop n b → take n page ++ (x ++ drop (n + w) page) ≡ (front ++ x) ++ drop (n + w) b
 line-put front x b page n w l e =
     let d : drop (n + w) (front ++ drop n b) ≡ drop (n + w) b =
-        ap (λ (i : ℕ). drop (i + w) (front ++ drop n b)) (sym l) ∙ drop-append-add front (drop n b) w ∙ drop-drop w n b in
+    ap (λ (i : ℕ). drop (i + w) (front ++ drop n b)) (sym l) ∙ drop-append-add front (drop n b) w ∙ drop-drop w n b in
     rw (e, take-at front (drop n b) n l, d, append-assoc)
 
 -- the writer had the part of the page from n on, and put w bytes `x` at its front
@@ -87,3 +89,16 @@ put-none bytes b h = record { count = rw (lt-ltb (length b) (length bytes) h); p
 pub put-all : (bytes b after : List ℕ) (r : ℕ) → length bytes ≤ length b → r ≡ length bytes → after ≡ bytes ++ drop (length bytes) b → Put bytes b after r
 put-all bytes b after r h e f =
     record { count = rw (le-ltb (length b) (length bytes) h) e; page = rw (le-ltb (length b) (length bytes) h) f }
+
+-- no more is put than the page has
+pub put-within : {bytes b after : List ℕ} {r : ℕ} → Put bytes b after r → r ≤ length b
+put-within {bytes} {b} p =
+    by-cases (decLt (length b) (length bytes)) (λ h. omega (arith, rw (lt-ltb (length b) (length bytes) h) at (p .count)))
+    (λ h. omega (arith, rw (le-ltb (length b) (length bytes) (omega arith)) at (p .count)))
+
+-- a page with room gets them all
+pub put-whole : (bytes b after : List ℕ) (r : ℕ) → length bytes ≤ length b → Put bytes b after r → take r after ≡ bytes
+put-whole bytes b after r h p =
+    let e : r ≡ length bytes = rw (le-ltb (length b) (length bytes) h) at (p .count) in
+    let f : after ≡ bytes ++ drop (length bytes) b = rw (le-ltb (length b) (length bytes) h) at (p .page) in
+    rw (f, take-at bytes (drop (length bytes) b) r (sym e))

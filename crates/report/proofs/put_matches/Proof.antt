@@ -52,9 +52,11 @@ put-match-requires : tie.Need-put-match-requires Inv-loop μ-loop
 put-match-requires c κs =
     let l = c .before .before .before .before in
     let s = l .before .before .before .before .before .before in
-    let t = l .before .loop .tally in
-    (next-small (s .args .text .now) (s .args .needle .now) (s .pre .0) (s .pre .1) (t .matches) (t .cursor) (c .before .before .next-in-bytes .result) (called l .0) (called l .1)
-    (c .before .before .next-in-bytes .ensures), omega (arith, few l))
+    let t = l .before .loop .tally in (
+      next-small (s .args .text .now) (s .args .needle .now) (s .pre .0) (s .pre .1) (t .matches) (t .cursor) (c .before .before .next-in-bytes .result) (called l .0) (called l .1)
+          (c .before .before .next-in-bytes .ensures),
+      omega (arith, few l),
+    )
 
 after-requires : tie.Need-after-requires Inv-loop μ-loop
 after-requires c κs = omega (arith, few (c .before .before .before .before .before .before .before))
