@@ -19,7 +19,7 @@ tallyOf matches cursor more = record { matches = matches; cursor = cursor; more 
 abbrev pub afterNext : Tally → Next → Tally
 afterNext t (Match p c) = tallyOf (t .matches + 1) c true
 afterNext t (Absent c) = tallyOf (t .matches) c false
-afterNext t (Refused r c) = tallyOf (t .matches) c false
+afterNext t (Refused r c) = tallyOf (t .matches) (t .cursor) false
 
 -- a match's position has at most 8 digits
 abbrev pub Small : Next → Type 0

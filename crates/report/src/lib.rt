@@ -54,25 +54,26 @@ impl Tally {
         }
     }
 
-    // After a call's answer. Only a match has another call follow.
+    // After a call's answer. Only a match has another call follow. A text and a needle within their limits are never refused.
     fn after(self, next: Next) -> Tally
         requires { ⌜ self .matches ≤ longestInput ⌝ }
         ensures { λ r. ⌜ r ≡ afterNext self next ⌝ }
     {
+        let so_far = self.cursor;
         match next {
             Next::Match(_, cursor) => Tally {
                 matches: self.matches + 1,
                 cursor: cursor,
                 more: true,
             },
-            Next::Absent(cursor) => Tally {
+            Next::Absent(last) => Tally {
                 matches: self.matches,
-                cursor: cursor,
+                cursor: last,
                 more: false,
             },
-            Next::Refused(_, cursor) => Tally {
+            Next::Refused(_, _) => Tally {
                 matches: self.matches,
-                cursor: cursor,
+                cursor: so_far,
                 more: false,
             },
         }

@@ -14,17 +14,17 @@ add-t7 c = search needs
 enum-known-next-2 : tie.Need-enum-known-next-2
 enum-known-next-2 c = search needs
 
-enum-known-next-3 : tie.Need-enum-known-next-3
-enum-known-next-3 c = search needs
+enum-told : tie.Need-enum-told
+enum-told c = search needs
 
 returns : tie.Need-returns
-returns c = sym (ap (afterNext (c .before .before .before .before .args .self)) (c .before .before .next .given .1))
+returns c = sym (ap (afterNext (c .before .before .before .before .before .args .self)) (c .before .before .next .given .1))
 
 returns-2 : tie.Need-returns-2
-returns-2 c = sym (ap (afterNext (c .before .before .before .args .self)) (c .before .next2 .given .1))
+returns-2 c = sym (ap (afterNext (c .before .before .before .before .args .self)) (c .before .next2 .given .1))
 
 returns-3 : tie.Need-returns-3
-returns-3 c = sym (ap (afterNext (c .before .before .before .args .self)) (c .before .next3 .given .1))
+returns-3 c = sym (ap (afterNext (c .before .before .before .args .self)) (c .enum-told .given .1))
 
 pub after-spec : {M : Type 1} → statement M
 after-spec =
@@ -33,7 +33,7 @@ after-spec =
     enum-known-next
     add-t7
     enum-known-next-2
-    enum-known-next-3
+    enum-told
     returns
     returns-2
     returns-3)
