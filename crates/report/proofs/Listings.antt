@@ -1,7 +1,7 @@
 -- The lines for a text and a needle: how long they are, and that they are put at the front of a page. No report is longer than `longestReport`. Assumes nothing.
-use Prim.Native.Nat.{ℕ, zero, suc, _+_, _-_, _*_, _/_, _≤_, _<_}
-use mathlib.Core.Path.{_≡_, refl, sym, ap, _∙_}
-use mathlib.Core.Bool.{Bool, true, false}
+use Prim.Native.Nat.{ℕ, suc, _+_, _-_, _*_, _/_, _≤_, _<_}
+use mathlib.Core.Path.{_≡_, sym, _∙_}
+use mathlib.Core.Bool.{false}
 use mathlib.Core.List.{List, _++_}
 use mathlib.Core.Logic.{by-cases}
 use lib.Dec.{ltb}
@@ -15,11 +15,12 @@ use Rattle.search.specs.Positions.{positions}
 use Rattle.search.specs.Walk.{bound}
 use Rattle.search.specs.Cursors.{longestNeedle}
 use Rattle.search.proofs.Lists.{calls-find-all}
+use Rattle.search.proofs.Callers.{position-within, positions-few}
 use Rattle.report.specs.declared.Tally.{Tally}
 use Rattle.report.specs.Report.{feedAt, needleOf, textOf, longestInput, longestReport, refusalOf, numberLine, matchLines, totalsLine, comparesFor, listing, reportOf, Put}
 use Rattle.report.specs.Parts.{Found}
 use Rattle.report.proofs.Inputs.{feed-within, length-needle, too-long, no-feed, long-needle, no-refusal}
-use Rattle.report.proofs.Lines.{length-number, length-totals, length-lines, position-within, positions-few}
+use Rattle.report.proofs.Lines.{length-number, length-totals, length-lines}
 use Rattle.report.proofs.Pages.{tail, line-put, part-put, put-all, put-whole}
 
 bound-few : (n m : ℕ) → n < longestInput → m ≤ longestNeedle → bound false n m ≤ 4194304

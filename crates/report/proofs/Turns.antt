@@ -1,8 +1,8 @@
 -- The loop of `put_matches`: what holds after k matches, and that a turn keeps it. Assumes nothing.
-use Prim.Native.Nat.{ℕ, zero, suc, _+_, _-_, _*_, _≤_, _<_}
+use Prim.Native.Nat.{ℕ, suc, _+_, _-_, _*_, _≤_, _<_}
 use mathlib.Core.Path.{_≡_, refl, sym, ap, subst, _∙_}
 use mathlib.Core.Bool.{Bool, true, false}
-use mathlib.Core.List.{List, [], _∷_, _++_}
+use mathlib.Core.List.{List, [], _++_}
 use mathlib.Core.Logic.{by-cases}
 use lib.ListN.{length, getD, take, drop}
 use lib.Seq.{take-length, getD-take, length-take-le}
@@ -20,9 +20,9 @@ use Rattle.search.specs.Calls.{cursorAfter}
 use Rattle.search.proofs.Lists.{calls-find-all}
 use Rattle.report.specs.declared.Tally.{Tally}
 use Rattle.report.specs.Report.{longestInput, numberLine, matchLines}
-use Rattle.report.specs.Parts.{tallyOf, afterNext, Small, withMatch, Found}
-use Rattle.report.proofs.Calls.{finds, ends}
-use Rattle.report.proofs.Lines.{position-within, positions-few, lines-more, length-lines}
+use Rattle.report.specs.Parts.{afterNext, Small, withMatch, Found}
+use Rattle.search.proofs.Callers.{finds, ends, position-within}
+use Rattle.report.proofs.Lines.{lines-more, length-lines}
 use Rattle.report.proofs.Pages.{line-put}
 
 -- the cursor after k calls

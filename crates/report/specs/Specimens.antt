@@ -1,9 +1,9 @@
 -- The worked example of document 01, the smallest inputs and each refusal at its edge, in one list that one computed check covers.
 use Prim.Native.Nat.{ℕ, _+_}
-use mathlib.Core.Bool.{Bool, true, false, _&&_}
+use mathlib.Core.Bool.{Bool, _&&_}
 use mathlib.Core.List.{List, [], _∷_, _++_}
 use lib.Dec.{T, eqb}
-use lib.ListN.{length, replicate}
+use lib.ListN.{replicate}
 use Rattle.bits.specs.Bits.{leastBelow, numberOf, tabulate}
 use Rattle.blocks.specs.Blocks.{operandOf, compareIndex}
 use Rattle.decimal.specs.Decimal.{digits, digitsWithin, column}

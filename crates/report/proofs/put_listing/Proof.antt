@@ -1,11 +1,10 @@
 -- `report::put_listing` meets its contract: the page has room, so the lines of all matches are on it, and the totals go after them. Assumes nothing.
-use Prim.Native.Nat.{ℕ, _+_, _*_, _≤_}
-use mathlib.Core.Path.{_≡_, sym, ap, _∙_}
+use Prim.Native.Nat.{_+_, _*_, _≤_}
+use mathlib.Core.Path.{sym, _∙_}
 use native.Mathlib.Omega.{arith}
 use lib.ListN.{length, length-drop}
 use borrow.Author.Needs.{needs}
 use borrow.Author.Tests.{ltb-true, ltb-false}
-use Rattle.search.specs.Positions.{positions}
 use Rattle.report.specs.Report.{listing}
 use Rattle.report.proofs.Pages.{tail, put-none}
 use Rattle.report.proofs.Listings.{matches-few, compares-few, length-listing, listing-put}

@@ -1,14 +1,12 @@
 -- `report::put_matches` meets its contract. The invariant: the cursor is the one after as many calls as there are matches so far, and one more where absent was said; and
 -- a page with room for all lines has those of the matches so far. A turn is `turned`, the end `found-all`. Assumes nothing.
-use Prim.Native.Nat.{ℕ, _≤_, _<_, _*_}
-use mathlib.Core.Path.{_≡_, refl, sym, ap, subst, _∙_}
-use mathlib.Core.Bool.{Bool, true, false}
-use mathlib.Core.List.{List}
+use Prim.Native.Nat.{_≤_, _<_}
+use mathlib.Core.Path.{_≡_, refl, sym, subst, _∙_}
+use mathlib.Core.Bool.{Bool, true}
 use native.Mathlib.Omega.{arith}
 use lib.ListN.{length}
-use Rattle.search.specs.Positions.{positions}
 use Rattle.report.specs.declared.Tally.{Tally}
-use Rattle.report.proofs.Lines.{positions-few}
+use Rattle.search.proofs.Callers.{positions-few}
 use Rattle.report.proofs.Turns.{Called, callsLeft, HasLines, no-lines, next-small, Turned, turned, found-all}
 use Rattle.report.proofs.put_matches.Statement.{statement}
 use Rattle.report.proofs.put_matches.Tie as tie

@@ -1,10 +1,7 @@
 -- `report::put_refusal` meets its contract: a line with one number has 9 bytes. Assumes nothing.
 use native.Mathlib.Omega.{arith}
-use mathlib.Core.Path.{sym, ap, _∙_}
+use mathlib.Core.Path.{sym}
 use borrow.Author.Needs.{needs}
-use mathlib.Core.List.{List, _++_}
-use Prim.Native.Nat.{ℕ}
-use lib.ListN.{drop}
 use Rattle.report.specs.Report.{numberLine}
 use Rattle.report.proofs.Lines.{length-number}
 use Rattle.report.proofs.Pages.{put-none, put-all}

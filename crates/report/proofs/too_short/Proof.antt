@@ -1,7 +1,7 @@
 -- `report::too_short` meets its contract. No listing is longer than the longest report; for a shorter page the matches are counted, and a listing has 9 bytes for each and
 -- 19 for the totals. Assumes nothing.
 use Prim.Native.Nat.{ℕ, _+_, _*_, _≤_}
-use mathlib.Core.Path.{_≡_, sym, ap, _∙_}
+use mathlib.Core.Path.{sym, ap, _∙_}
 use native.Mathlib.Omega.{arith}
 use lib.Dec.{ltb}
 use lib.ListN.{length}
