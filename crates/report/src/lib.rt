@@ -11,7 +11,7 @@ ghost use Prim.Native.Nat.{_≤_, _<_};
 ghost use lib.Dec.{ltb};
 ghost use lib.ListN.{length, drop};
 ghost use Rattle.search.specs.Cursors.{freshCursor, longestNeedle};
-ghost use Rattle.report.specs.Report.{feedAt, listing, longestInput, numberLine, Put, reportOf, totalsLine};
+ghost use Rattle.report.specs.Report.{feedAt, listing, longestInput, longestReport, numberLine, Put, reportOf, totalsLine};
 ghost use Rattle.report.specs.Parts.{afterNext, Found, Small, tallyOf, withMatch};
 
 // The most bytes of an input.
@@ -26,7 +26,7 @@ pub const FEED_REFUSED: u32 = 6;
 
 pub const INPUT_REFUSED: u32 = 7;
 
-// Columns of the totals, bytes of a line with one number, and of the line with the totals. Every line ends with a line feed.
+// The columns of a match and of the totals; and the bytes of a line with one number and of the line with the totals, each with its line feed.
 const NUMBER_WIDTH: usize = 8;
 
 const COMPARES_WIDTH: usize = 10;
@@ -115,7 +115,7 @@ fn put_totals(matches: u64, compares: u64, page: &mut [u8])
 
 // Writes the line of a match, where there is one, at its own byte of the page, if it fits there.
 fn put_match(next: Next, at: usize, page: &mut [u8])
-    requires { ⌜ Small next × (at ≤ 600000) ⌝ }
+    requires { ⌜ Small next × (at ≤ longestReport) ⌝ }
     ensures { λ _. ⌜ now (page .exit) ≡ withMatch next at (now (page .entry)) ⌝ }
 {
     match next {
