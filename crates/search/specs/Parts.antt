@@ -1,9 +1,12 @@
 -- What the parts of the search say, for the contracts of its private functions. A reader of the public calls needs none of it.
-use Prim.Native.Nat.{ℕ, _+_}
-use mathlib.Core.Bool.{Bool, true, false, cond}
+use Prim.Native.Nat.{ℕ, _+_, _-_, _/_, _≤_}
+use mathlib.Core.Path.{_≡_}
+use mathlib.Core.Bool.{Bool, true, false, cond, _&&_, _||_}
 use mathlib.Core.List.{List}
-use lib.Dec.{ltb}
-use lib.ListN.{drop}
+use lib.Dec.{eqb, leb, ltb}
+use lib.ListN.{drop, getD, length}
+use Rattle.bits.specs.Bits.{tabulate}
+use Rattle.pcmpstr.specs.Operand.{count}
 use Rattle.search.specs.declared.Cursor.{Cursor}
 use Rattle.search.specs.declared.Next.{Next}
 use Rattle.search.specs.declared.Next.the-variants.{Match, Absent}
@@ -46,3 +49,34 @@ ended p (nowhere k) = Absent (cursorAt p k true)
 -- the answer for an empty needle in a text of n elements
 abbrev pub emptyNeedle : ℕ → Cursor → Next
 emptyNeedle n c = ended (c .position) (cond (ltb n (c .position)) (nowhere (c .compares)) (matchAt (c .position) (c .compares)))
+
+-- ---- blocks in which the needle stands nowhere
+
+-- at place j of a block of b elements, letter i of a needle of m is not asked for
+abbrev pub unaskedAt : ℕ → ℕ → ℕ → ℕ → Bool
+unaskedAt b m i j = leb m i || leb b (i + j)
+
+-- The needle's first four letters stand in y from j on, as far as the rows u₁, u₂, u₃ ask for the last three.
+abbrev pub startsAt : List ℕ → ℕ → ℕ → ℕ → ℕ → List Bool → List Bool → List Bool → ℕ → Bool
+startsAt y c₀ c₁ c₂ c₃ u₁ u₂ u₃ j =
+    (eqb (getD y j 0) c₀ && (eqb (getD y (j + 1) 0) c₁ || getD u₁ j false))
+    && ((eqb (getD y (j + 2) 0) c₂ || getD u₂ j false) && (eqb (getD y (j + 3) 0) c₃ || getD u₃ j false))
+
+-- the three rows of a needle
+abbrev pub Rows : Bool → List ℕ → List Bool → List Bool → List Bool → Type 0
+Rows words needle u₁ u₂ u₃ =
+    (u₁ ≡ tabulate 16 (unaskedAt (count words) (length needle) 1))
+    × (u₂ ≡ tabulate 16 (unaskedAt (count words) (length needle) 2))
+    × (u₃ ≡ tabulate 16 (unaskedAt (count words) (length needle) 3))
+
+-- Whole blocks from p to q hold no front of the needle: the walk passes them, with a compare for each.
+pub record Clear (words : Bool) (text needle : List ℕ) (p q : ℕ) : Type 0 where
+  pub passes : walk words text needle p ≡ plus ((q - p) / count words) (walk words text needle q)
+  pub onwards : p ≤ q
+  pub near : q ≤ length text + 17
+
+-- the cursor c moved on to r, past such blocks
+pub record Skipped (words : Bool) (text needle : List ℕ) (c r : Cursor) : Type 0 where
+  pub same : total words text needle r ≡ total words text needle c
+  pub onwards : c .position ≤ r .position
+  pub near : r .position ≤ length text + 17
