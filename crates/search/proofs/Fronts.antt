@@ -1,14 +1,14 @@
 -- Blocks that the needle's first four letters rule out: where one of them is asked for and does not stand, the needle's front does not fit, so
 -- the compare's index is b and the walk goes on past the block. Assumes nothing.
-use Prim.Native.Nat.{ℕ, _+_, _-_, _/_, _≤_, _<_, min}
+use Prim.Native.Nat.{ℕ, _+_, _*_, _-_, _/_, _%_, _≤_, _<_, min}
 use mathlib.Core.Path.{_≡_, refl, sym, ap, _∙_}
-use mathlib.Core.Bool.{Bool, true, false, _&&_, _||_}
+use mathlib.Core.Bool.{Bool, true, false, _||_}
 use mathlib.Core.List.{List}
 use lib.Dec.{eqb, leb}
 use lib.ListN.{length, getD, take, drop, length-take, length-drop}
 use lib.Seq.{getD-take}
 use native.Mathlib.Omega.{arith}
-use native.Mathlib.Nat.{add-zero, zero-add}
+use native.Mathlib.Nat.{zero-add}
 use borrow.Author.Tests.{le-leb, eq-eqb}
 use Rattle.bits.specs.Bits.{tabulate}
 use Rattle.bits.proofs.Below.{by-order, or-true}
@@ -17,8 +17,7 @@ use Rattle.pcmpstr.specs.Operand.{count}
 use Rattle.search.specs.declared.Cursor.{Cursor}
 use Rattle.search.specs.Cursors.{cursorAt}
 use Rattle.search.specs.Walk.{onward, block, step, Ended, matchAt, nowhere, plus, walk}
-use Rattle.search.specs.Parts.{unaskedAt, startsAt, Rows, Clear, Skipped}
-use Rattle.search.proofs.Pieces.{count-some}
+use Rattle.search.specs.Parts.{unaskedIn, standsAt, startsAt, Clear, Skipped}
 use Rattle.search.proofs.Compare.{FitsAt, ordered-none}
 use Rattle.search.proofs.Steps.{step-none}
 use Rattle.search.proofs.Walks.{plus-plus, walk-onward}
@@ -34,43 +33,45 @@ count-most : (words : Bool) → count words ≤ 16
 count-most true = omega arith
 count-most false = omega arith
 
--- the part of the text that is looked at, and the letters that it is held against
-module _ (words : Bool) (text needle y : List ℕ) (p : ℕ) (some : 0 < length needle) (there : (i : ℕ) → i < count words + 3 → getD y i 0 ≡ getD (drop p text) i 0) where
+-- y is the block and three elements more, u the rows of the needle
+module _ (words : Bool) (text needle y : List ℕ) (u : List Bool) (p : ℕ) (some : 0 < length needle) (rows : u ≡ tabulate 64 (unaskedIn (count words) (length needle)))
+    (there : (i : ℕ) → i < count words + 3 → getD y i 0 ≡ getD (drop p text) i 0) where
+  row-is : (j i : ℕ) → j < 16 → i ≤ 3 → getD u (16 * i + j) false ≡ leb (length needle) i || leb (count words) (i + j)
+  row-is j i h three =
+      let row : (16 * i + j) / 16 ≡ i = omega arith in
+      let place : (16 * i + j) % 16 ≡ j = omega arith in
+      rw rows (getD-tabulate 64 (16 * i + j) (unaskedIn (count words) (length needle)) false (omega arith) ∙ rw (row, place))
+
   -- where the needle's front fits, each letter stands or is not asked for
-  letter-stands : (j i c : ℕ) (u : List Bool) → FitsAt (count words) (take (count words) needle) (block words text p) j → j < count words → i ≤ 3 → c ≡ getD needle (min i (length needle - 1)) 0 → u ≡ tabulate 16 (unaskedAt (count words) (length needle) i)
-      → (eqb (getD y (j + i) 0) c || getD u j false) ≡ true
-  letter-stands j i c u f h three e r =
-      let row : getD u j false ≡ unaskedAt (count words) (length needle) i j =
-      rw r (getD-tabulate 16 j (unaskedAt (count words) (length needle) i) false (omega (arith, count-most words))) in
+  letter-stands : (j i : ℕ) → FitsAt (count words) (take (count words) needle) (block words text p) j → j < count words → i ≤ 3 → standsAt y needle u j i ≡ true
+  letter-stands j i f h three =
+      let most = count-most words in
+      let row = row-is j i (omega arith) three in
+      let letter = getD needle (min i (length needle - 1)) 0 in
       by-order i (length needle)
       (λ hn. by-order (i + j) (count words)
-      (λ hb. let q = f i (rw length-take (omega arith)) (omega arith) .1 in
-      let at : min i (length needle - 1) ≡ i = omega arith in
-      let same : getD y (j + i) 0 ≡ c =
-      there (j + i) (omega arith) ∙ sym (getD-take (count words) (drop p text) (j + i) 0 (omega arith)) ∙ q ∙ getD-take (count words) needle i 0 (omega arith) ∙ sym (rw at at e) in
-      rw (eq-eqb (getD y (j + i) 0) c same))
-      (λ hb. rw (row, le-leb (count words) (i + j) hb, or-true (leb (length needle) i), or-true (eqb (getD y (j + i) 0) c))))
-      (λ hn. rw (row, le-leb (length needle) i hn, or-true (eqb (getD y (j + i) 0) c)))
+      (λ hb. let at : min i (length needle - 1) ≡ i = omega arith in
+      let same : getD y (j + i) 0 ≡ letter =
+      there (j + i) (omega arith)
+      ∙ sym (getD-take (count words) (drop p text) (j + i) 0 (omega arith))
+      ∙ f i (rw length-take (omega arith)) (omega arith) .1
+      ∙ getD-take (count words) needle i 0 (omega arith)
+      ∙ sym (ap (λ (k : ℕ). getD needle k 0) at) in
+      rw (eq-eqb (getD y (j + i) 0) letter same))
+      (λ hb. rw (row, le-leb (count words) (i + j) hb, or-true (leb (length needle) i), or-true (eqb (getD y (j + i) 0) letter))))
+      (λ hn. rw (row, le-leb (length needle) i hn, or-true (eqb (getD y (j + i) 0) letter)))
 
-  module _ (room : p + length needle ≤ length text) (wide : p + (count words + 3) ≤ length text) (c₀ c₁ c₂ c₃ : ℕ) (u₁ u₂ u₃ : List Bool) (rows : Rows words needle u₁ u₂ u₃)
-      (e₀ : c₀ ≡ getD needle 0 0) (e₁ : c₁ ≡ getD needle (min 1 (length needle - 1)) 0) (e₂ : c₂ ≡ getD needle (min 2 (length needle - 1)) 0) (e₃ : c₃ ≡ getD needle (min 3 (length needle - 1)) 0) where
-    first-stands : (j : ℕ) → FitsAt (count words) (take (count words) needle) (block words text p) j → j < count words → eqb (getD y j 0) c₀ ≡ true
-    first-stands j f h =
-        let b = count words in
-        let q = rw (add-zero j) at (f 0 (rw length-take (omega (arith, count-some words))) (omega arith) .1) in
-        eq-eqb (getD y j 0) c₀ (there j (omega arith) ∙ sym (getD-take b (drop p text) j 0 h) ∙ q ∙ getD-take b needle 0 0 (count-some words) ∙ sym e₀)
-
-    -- Where the four letters stand at no place of the block, the walk goes on past it.
-    pub block-passed : ((j : ℕ) → j < count words → startsAt y c₀ c₁ c₂ c₃ u₁ u₂ u₃ j ≡ false) → step words text needle p ≡ onward (p + count words) 1
-    block-passed none =
-        step-none words text needle p some room (p + count words)
-        (ordered-none words (take (count words) needle) (block words text p) (rw length-take (omega arith)) (rw length-take (omega arith))
-        (λ j h f. let t : startsAt y c₀ c₁ c₂ c₃ u₁ u₂ u₃ j ≡ true =
-        rw (first-stands j f h, letter-stands j 1 c₁ u₁ f h (omega arith) e₁ (rows .0), letter-stands j 2 c₂ u₂ f h (omega arith) e₂ (rows .1), letter-stands j 3 c₃ u₃ f h (omega arith) e₃ (rows .2)) in
-        let u = none j h in
-        let z : _≡_ {A = ℕ} 0 1 = cc in
-        omega arith))
-        (omega arith)
+  -- Where the four letters stand at no place of the block, the walk goes on past it.
+  pub block-passed : p + length needle ≤ length text → p + (count words + 3) ≤ length text → ((j : ℕ) → j < count words → startsAt y needle u j ≡ false) → step words text needle p ≡ onward (p + count words) 1
+  block-passed room wide none =
+      step-none words text needle p some room (p + count words)
+      (ordered-none words (take (count words) needle) (block words text p) (rw length-take (omega arith)) (rw length-take (omega arith))
+      (λ j h f. let t : startsAt y needle u j ≡ true =
+      rw (letter-stands j 0 f h (omega arith), letter-stands j 1 f h (omega arith), letter-stands j 2 f h (omega arith), letter-stands j 3 f h (omega arith)) in
+      let e = none j h in
+      let z : _≡_ {A = ℕ} 0 1 = cc in
+      omega arith))
+      (omega arith)
 
 -- ---- block after block
 

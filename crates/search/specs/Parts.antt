@@ -1,11 +1,10 @@
 -- What the parts of the search say, for the contracts of its private functions. A reader of the public calls needs none of it.
-use Prim.Native.Nat.{ℕ, _+_, _-_, _/_, _≤_}
+use Prim.Native.Nat.{ℕ, _+_, _*_, _-_, _/_, _%_, _≤_, min}
 use mathlib.Core.Path.{_≡_}
 use mathlib.Core.Bool.{Bool, true, false, cond, _&&_, _||_}
 use mathlib.Core.List.{List}
 use lib.Dec.{eqb, leb, ltb}
 use lib.ListN.{drop, getD, length}
-use Rattle.bits.specs.Bits.{tabulate}
 use Rattle.pcmpstr.specs.Operand.{count}
 use Rattle.search.specs.declared.Cursor.{Cursor}
 use Rattle.search.specs.declared.Next.{Next}
@@ -52,22 +51,18 @@ emptyNeedle n c = ended (c .position) (cond (ltb n (c .position)) (nowhere (c .c
 
 -- ---- blocks in which the needle stands nowhere
 
--- at place j of a block of b elements, letter i of a needle of m is not asked for
-abbrev pub unaskedAt : ℕ → ℕ → ℕ → ℕ → Bool
-unaskedAt b m i j = leb m i || leb b (i + j)
+-- Four rows of sixteen places, a row for each of the needle's first four letters: whether the letter is not asked for at that place of a block of
+-- b elements, since the needle has only m letters or the letter would stand past the block.
+abbrev pub unaskedIn : ℕ → ℕ → ℕ → Bool
+unaskedIn b m k = leb m (k / 16) || leb b (k / 16 + k % 16)
 
--- The needle's first four letters stand in y from j on, as far as the rows u₁, u₂, u₃ ask for the last three.
-abbrev pub startsAt : List ℕ → ℕ → ℕ → ℕ → ℕ → List Bool → List Bool → List Bool → ℕ → Bool
-startsAt y c₀ c₁ c₂ c₃ u₁ u₂ u₃ j =
-    (eqb (getD y j 0) c₀ && (eqb (getD y (j + 1) 0) c₁ || getD u₁ j false))
-    && ((eqb (getD y (j + 2) 0) c₂ || getD u₂ j false) && (eqb (getD y (j + 3) 0) c₃ || getD u₃ j false))
+-- Letter i of the needle x, or its last one, stands in y where x would begin at place j, or the rows u do not ask for it.
+abbrev pub standsAt : List ℕ → List ℕ → List Bool → ℕ → ℕ → Bool
+standsAt y x u j i = eqb (getD y (j + i) 0) (getD x (min i (length x - 1)) 0) || getD u (16 * i + j) false
 
--- the three rows of a needle
-abbrev pub Rows : Bool → List ℕ → List Bool → List Bool → List Bool → Type 0
-Rows words needle u₁ u₂ u₃ =
-    (u₁ ≡ tabulate 16 (unaskedAt (count words) (length needle) 1))
-    × (u₂ ≡ tabulate 16 (unaskedAt (count words) (length needle) 2))
-    × (u₃ ≡ tabulate 16 (unaskedAt (count words) (length needle) 3))
+-- the first four letters do
+abbrev pub startsAt : List ℕ → List ℕ → List Bool → ℕ → Bool
+startsAt y x u j = ((standsAt y x u j 0 && standsAt y x u j 1) && standsAt y x u j 2) && standsAt y x u j 3
 
 -- Whole blocks from p to q hold no front of the needle: the walk passes them, with a compare for each.
 pub record Clear (words : Bool) (text needle : List ℕ) (p q : ℕ) : Type 0 where

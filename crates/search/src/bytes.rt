@@ -2,8 +2,6 @@
 use crate::Cursor;
 use crate::Next;
 use crate::Stepped;
-use crate::both;
-use crate::either;
 use crate::unasked;
 use blocks::padded_bytes;
 use blocks::whole_bytes;
@@ -13,11 +11,12 @@ ghost use Prim.Native.Nat.{ℕ, _+_, _≤_, _<_, min};
 ghost use lib.Dec.{ltb};
 ghost use lib.ListN.{length, take};
 ghost use lib.IntN.{pos};
+ghost use Rattle.bits.specs.Bits.{tabulate};
 ghost use Rattle.blocks.specs.Blocks.{compareIndex, eachNegated, longestText, operandOf};
 ghost use Rattle.pcmpstr.specs.Calls.{PCMPESTRI};
 ghost use Rattle.search.specs.Walk.{step};
 ghost use Rattle.search.specs.Cursors.{longestNeedle, mostCompares, nextMatch};
-ghost use Rattle.search.specs.Parts.{Clear, Rows, Skipped, ended, laterAt, manyCompares, rested, startsAt, stepped, total};
+ghost use Rattle.search.specs.Parts.{Clear, Skipped, ended, laterAt, manyCompares, rested, standsAt, startsAt, stepped, total, unaskedIn};
 
 // Where the needle's first piece first stands in a block of the text: `first` is the piece's operand and l its length. A whole block is filled
 // without a test for each byte. A short one, at the text's end, goes through the generic call: so the quick entry has one caller, and the compiler
@@ -42,60 +41,47 @@ fn differ(piece: &[u8], part: &[u8]) -> bool
     blocks::bytes_differ_at(piece, part) < 16
 }
 
-// Whether the needle's first four letters may stand in a block of the text, as far as they are asked for there. `part` is the block and three
-// elements more.
-fn may_start(
-    part: &[u8],
-    c0: u8,
-    c1: u8,
-    c2: u8,
-    c3: u8,
-    u1: &[bool; 16],
-    u2: &[bool; 16],
-    u3: &[bool; 16],
-) -> bool
-    requires { ⌜ length (now part) ≡ 19 ⌝ }
-    ensures { λ r. ⌜ (r ≡ false → (j : ℕ) → j < 16 → startsAt (now (part .entry)) c0 c1 c2 c3 (now (u1 .entry)) (now (u2 .entry)) (now (u3 .entry)) j ≡ false) ⌝ }
+// Whether letter i of the needle, or its last one if it has no more, stands in the block for a needle that begins at its place j. Past the block
+// every letter counts as standing. `part` is the block and three elements more.
+fn stands(part: &[u8], needle: &[u8], rows: &[bool; 64], j: usize, i: usize) -> bool
+    requires { ⌜ (length (now part) ≡ 19) × (0 < length (now needle)) × (j < 16) × (i ≤ 3) ⌝ }
+    ensures { λ r. ⌜ r ≡ standsAt (now (part .entry)) (now (needle .entry)) (now (rows .entry)) j i ⌝ }
+{
+    let k = blocks::lesser(i, needle.len() - 1);
+    (part[j + i] == needle[k]) | rows[16 * i + j]
+}
+
+// Whether the needle's first four letters stand anywhere in the block.
+fn may_start(part: &[u8], needle: &[u8], rows: &[bool; 64]) -> bool
+    requires { ⌜ (length (now part) ≡ 19) × (0 < length (now needle)) ⌝ }
+    ensures { λ r. ⌜ (r ≡ false → (j : ℕ) → j < 16 → startsAt (now (part .entry)) (now (needle .entry)) (now (rows .entry)) j ≡ false) ⌝ }
 {
     let mut found = false;
     let mut j = 0;
     while j < 16 {
-        let x1 = either(part[j + 1] == c1, u1[j]);
-        let x2 = either(part[j + 2] == c2, u2[j]);
-        let x3 = either(part[j + 3] == c3, u3[j]);
-        found = either(found, both(both(part[j] == c0, x1), both(x2, x3)));
+        let x0 = stands(part, needle, rows, j, 0);
+        let x1 = stands(part, needle, rows, j, 1);
+        let x2 = stands(part, needle, rows, j, 2);
+        let x3 = stands(part, needle, rows, j, 3);
+        found = found | (x0 & x1 & x2 & x3);
         j += 1;
     }
     found
 }
 
-// The position after the whole blocks from p on in which the needle's front stands nowhere.
-fn clear(
-    text: &[u8],
-    needle: &[u8],
-    from: usize,
-    u1: &[bool; 16],
-    u2: &[bool; 16],
-    u3: &[bool; 16],
-) -> usize
-    requires { ⌜ (length (now text) ≤ longestText) × (length (now needle) ≤ longestNeedle) × (0 < length (now needle)) × (from ≤ length (now text) + 17) ⌝ }
-    requires { ⌜ Rows false (now needle) (now u1) (now u2) (now u3) ⌝ }
+// The position after the whole blocks from `from` on in which the needle's first four letters stand nowhere.
+fn clear(text: &[u8], needle: &[u8], rows: &[bool; 64], from: usize) -> usize
+    requires { ⌜ (length (now text) ≤ longestText) × (length (now needle) ≤ longestNeedle) × (0 < length (now needle)) ⌝ }
+    requires { ⌜ (now rows ≡ tabulate 64 (unaskedIn 16 (length (now needle)))) × (from ≤ length (now text) + 17) ⌝ }
     ensures { λ r. ⌜ Clear false (now (text .entry)) (now (needle .entry)) from r ⌝ }
 {
     let n = text.len();
     let m = needle.len();
-    let i1 = blocks::lesser(1, m - 1);
-    let i2 = blocks::lesser(2, m - 1);
-    let i3 = blocks::lesser(3, m - 1);
-    let c0 = needle[0];
-    let c1 = needle[i1];
-    let c2 = needle[i2];
-    let c3 = needle[i3];
     let reach = m + 19 - blocks::lesser(m, 19);
     let mut p = from;
     while p + reach <= n {
         let e = p + 19;
-        if may_start(&text[p..e], c0, c1, c2, c3, u1, u2, u3) {
+        if may_start(&text[p..e], needle, rows) {
             return p;
         }
         p += 16;
@@ -104,21 +90,14 @@ fn clear(
 }
 
 impl Cursor {
-    // The cursor past those blocks, each of which takes one compare.
-    fn skip_in_bytes(
-        self,
-        text: &[u8],
-        needle: &[u8],
-        u1: &[bool; 16],
-        u2: &[bool; 16],
-        u3: &[bool; 16],
-    ) -> Cursor
+    // The cursor past those blocks, each of which takes the walk one compare.
+    fn skip_in_bytes(self, text: &[u8], needle: &[u8], rows: &[bool; 64]) -> Cursor
         requires { ⌜ (length (now text) ≤ longestText) × (length (now needle) ≤ longestNeedle) × (0 < length (now needle)) ⌝ }
-        requires { ⌜ (self .position ≤ length (now text) + 17) × (self .compares ≤ manyCompares) × Rows false (now needle) (now u1) (now u2) (now u3) ⌝ }
+        requires { ⌜ (now rows ≡ tabulate 64 (unaskedIn 16 (length (now needle)))) × (self .position ≤ length (now text) + 17) × (self .compares ≤ manyCompares) ⌝ }
         ensures { λ r. ⌜ Skipped false (now (text .entry)) (now (needle .entry)) self r ⌝ }
     {
         let p = self.position as usize;
-        let q = clear(text, needle, p, u1, u2, u3);
+        let q = clear(text, needle, rows, p);
         Cursor {
             position: q as u64,
             compares: self.compares + ((q - p) / 16) as u64,
@@ -177,17 +156,15 @@ impl Cursor {
         let m = needle.len();
         let l = blocks::lesser(16, m);
         let first = padded_bytes(&needle[..l]);
-        let u1 = unasked(16, m, 1);
-        let u2 = unasked(16, m, 2);
-        let u3 = unasked(16, m, 3);
-        let mut at = self.skip_in_bytes(text, needle, &u1, &u2, &u3);
+        let rows = unasked(16, m);
+        let mut at = self.skip_in_bytes(text, needle, &rows);
         while (at.position as usize) + m <= n {
             let s = at.step_in_bytes(text, needle, first, l);
             at = s.cursor;
             if s.found {
                 return at.matched();
             }
-            at = at.skip_in_bytes(text, needle, &u1, &u2, &u3);
+            at = at.skip_in_bytes(text, needle, &rows);
         }
         at.absent(self.position)
     }

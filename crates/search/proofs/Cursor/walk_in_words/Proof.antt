@@ -12,11 +12,11 @@ use Rattle.search.proofs.Cursor.walk_in_words.Statement.{statement}
 use Rattle.search.proofs.Cursor.walk_in_words.Tie as tie
 
 abbrev Inv-loop : tie.InvT-loop
-Inv-loop self text needle n m l first u1 u2 u3 at₀ at =
+Inv-loop self text needle n m l first rows at₀ at =
     (at .position ≤ length text + 17) × (total true text needle at ≡ total true text needle self)
 
 abbrev μ-loop : tie.MeasureT-loop
-μ-loop self text needle n m l first u1 u2 u3 at₀ at = n + 18 - at .position
+μ-loop self text needle n m l first rows at₀ at = n + 18 - at .position
 
 lesser-requires : tie.Need-lesser-requires Inv-loop μ-loop
 lesser-requires c κs = search needs
@@ -30,16 +30,8 @@ padded-words-requires c κs = search needs
 unasked-requires : tie.Need-unasked-requires Inv-loop μ-loop
 unasked-requires c κs = search needs
 
-unasked-requires-2 : tie.Need-unasked-requires-2 Inv-loop μ-loop
-unasked-requires-2 c κs = search needs
-
-unasked-requires-3 : tie.Need-unasked-requires-3 Inv-loop μ-loop
-unasked-requires-3 c κs = search needs
-
 skip-in-words-requires : tie.Need-skip-in-words-requires Inv-loop μ-loop
-skip-in-words-requires c κs =
-    let u = c .before .before .before in
-    (omega arith, (omega arith, omega arith, (u .before .before .unasked .ensures, u .before .unasked2 .ensures, u .unasked3 .ensures)))
+skip-in-words-requires c κs = (omega arith, (c .before .unasked .ensures, omega arith, omega arith))
 
 loop-holds : tie.Need-loop-holds Inv-loop μ-loop
 loop-holds c = (c .skip-in-words .ensures .near, c .skip-in-words .ensures .same)
@@ -50,14 +42,14 @@ add-loop c = search needs
 step-in-words-requires : tie.Need-step-in-words-requires Inv-loop μ-loop
 step-in-words-requires c κs =
     let l = c .before in
-    let s = l .before .before .before .before .before .before .before .before .before .before .before .before .before in
+    let s = l .before .before .before .before .before .before .before .before .before in
     let few = total-few true (s .args .text .now) (s .args .needle .now) (s .args .self) (l .loop .at) (l .loop .inv .1) (omega arith) (omega arith) (omega arith) in
-    ((omega arith, omega arith, few), (omega arith, l .before .before .before .before .before .before .before .before .before .before .lesser .ensures, l .before .before .before .before .before .before .before .before .padded-words .ensures))
+    ((omega arith, omega arith, few), (omega arith, l .before .before .before .before .before .before .lesser .ensures, l .before .before .before .before .padded-words .ensures))
 
 matched-requires : tie.Need-matched-requires Inv-loop μ-loop
 matched-requires c κs =
     let l = c .before .before .before .before in
-    let s = l .before .before .before .before .before .before .before .before .before .before .before .before .before in
+    let s = l .before .before .before .before .before .before .before .before .before in
     let a = s .args in
     let here = found-here true (a .text .now) (a .needle .now) (l .loop .at) (c .before .before .step-in-words .result) (c .before .before .step-in-words .ensures) (c .if1 .taken) in
     omega (arith, s .pre .0 .0, c .before .before .before .loop-test .taken)
@@ -65,39 +57,36 @@ matched-requires c κs =
 returns : tie.Need-returns Inv-loop μ-loop
 returns c =
     let l = c .before .before .before .before .before in
-    let a = l .before .before .before .before .before .before .before .before .before .before .before .before .before .args in
+    let a = l .before .before .before .before .before .before .before .before .before .args in
     let t = c .before .before .before .step-in-words in
     c .matched .ensures
     ∙ sym (ap (ended (a .self .position)) (sym (l .loop .inv .1) ∙ step-found true (a .text .now) (a .needle .now) (l .loop .at) (t .result) (t .ensures) (c .before .if1 .taken)))
 
 skip-in-words-requires-2 : tie.Need-skip-in-words-requires-2 Inv-loop μ-loop
 skip-in-words-requires-2 c κs =
-    let l = c .before .before .before .before .before .before .before in
-    let u = l .before .before .before .before .before in
-    let s = l .before .before .before .before .before .before .before .before .before .before .before .before .before in
+    let l = c .before .before .before .before .before in
+    let s = l .before .before .before .before .before .before .before .before .before in
     let a = s .args in
-    let room = c .before .before .before .before .before .before .loop-test .taken in
-    let t = c .before .before .before .before .before .step-in-words in
-    let on = step-onward true (a .text .now) (a .needle .now) (l .loop .at) (t .result) (t .ensures) (c .before .before .before .if1 .left) room in
+    let t = c .before .before .before .step-in-words in
+    let on = step-onward true (a .text .now) (a .needle .now) (l .loop .at) (t .result) (t .ensures) (c .before .if1 .left) (c .before .before .before .before .loop-test .taken) in
     let few = total-few true (a .text .now) (a .needle .now) (a .self) (t .result .cursor) (on .0 ∙ l .loop .inv .1) (s .pre .0 .0) (s .pre .0 .1) (s .pre .1 .1) in
-    (s .pre .0, (omega (arith, on .2), few, (u .before .before .unasked .ensures, u .before .unasked2 .ensures, u .unasked3 .ensures)))
+    (s .pre .0, (l .before .before .before .unasked .ensures, omega (arith, on .2), few))
 
 loop-less : tie.Need-loop-less Inv-loop μ-loop
 loop-less c =
-    let l = c .before .before .before .before .before .before .before .before in
-    let a = l .before .before .before .before .before .before .before .before .before .before .before .before .before .args in
-    let room = c .before .before .before .before .before .before .before .loop-test .taken in
-    let t = c .before .before .before .before .before .before .step-in-words in
-    let on = step-onward true (a .text .now) (a .needle .now) (l .loop .at) (t .result) (t .ensures) (c .before .before .before .before .if1 .left) room in
+    let l = c .before .before .before .before .before .before in
+    let a = l .before .before .before .before .before .before .before .before .before .args in
+    let t = c .before .before .before .before .step-in-words in
+    let room = c .before .before .before .before .before .loop-test .taken in
+    let on = step-onward true (a .text .now) (a .needle .now) (l .loop .at) (t .result) (t .ensures) (c .before .before .if1 .left) room in
     nearer (length (a .needle .now)) (length (a .text .now)) (l .loop .at .position) (c .skip-in-words2 .result .position) room (omega (arith, on .1, c .skip-in-words2 .ensures .onwards))
 
 loop-again : tie.Need-loop-again Inv-loop μ-loop
 loop-again c =
-    let l = c .before .before .before .before .before .before .before .before in
-    let a = l .before .before .before .before .before .before .before .before .before .before .before .before .before .args in
-    let room = c .before .before .before .before .before .before .before .loop-test .taken in
-    let t = c .before .before .before .before .before .before .step-in-words in
-    let on = step-onward true (a .text .now) (a .needle .now) (l .loop .at) (t .result) (t .ensures) (c .before .before .before .before .if1 .left) room in
+    let l = c .before .before .before .before .before .before in
+    let a = l .before .before .before .before .before .before .before .before .before .args in
+    let t = c .before .before .before .before .step-in-words in
+    let on = step-onward true (a .text .now) (a .needle .now) (l .loop .at) (t .result) (t .ensures) (c .before .before .if1 .left) (c .before .before .before .before .before .loop-test .taken) in
     (c .skip-in-words2 .ensures .near, c .skip-in-words2 .ensures .same ∙ on .0 ∙ l .loop .inv .1)
 
 absent-requires : tie.Need-absent-requires Inv-loop μ-loop
@@ -106,7 +95,7 @@ absent-requires c κs = search needs
 returns-2 : tie.Need-returns-2 Inv-loop μ-loop
 returns-2 c =
     let l = c .before .before in
-    let a = l .before .before .before .before .before .before .before .before .before .before .before .before .before .args in
+    let a = l .before .before .before .before .before .before .before .before .before .args in
     c .absent .ensures
     ∙ sym (ap (ended (a .self .position)) (sym (l .loop .inv .1) ∙ total-past true (a .text .now) (a .needle .now) (l .loop .at) (omega arith)))
 
@@ -120,8 +109,6 @@ walk-in-words-spec =
     slice-aggregate-padded-words
     padded-words-requires
     unasked-requires
-    unasked-requires-2
-    unasked-requires-3
     skip-in-words-requires
     loop-holds
     add-loop
