@@ -1,4 +1,4 @@
-// The search in words: the two compares, then a step, the walk, and the call.
+// The search in words: the two compares, the blocks that need none, then a step, the walk, and the call.
 use crate::Cursor;
 use crate::Next;
 use crate::Stepped;
@@ -41,8 +41,8 @@ fn differ(piece: &[u16], part: &[u16]) -> bool
     blocks::words_differ_at(piece, part) < 8
 }
 
-// Whether letter i of the needle, or its last one if it has no more, stands in the block for a needle that begins at its place j. Past the block
-// every letter counts as standing. `part` is the block and three elements more.
+// Whether letter i of the needle stands in its place, for a needle that begins at place j of a block, or is not asked for there. `part` is the block
+// and three words more. Of a needle with no letter i, for which nobody asks, the last one is read.
 fn stands(part: &[u16], needle: &[u16], rows: &[bool; 64], j: usize, i: usize) -> bool
     requires { ⌜ (length (now part) ≡ 11) × (0 < length (now needle)) × (j < 8) × (i ≤ 3) ⌝ }
     ensures { λ r. ⌜ r ≡ standsAt (now (part .entry)) (now (needle .entry)) (now (rows .entry)) j i ⌝ }
@@ -51,7 +51,8 @@ fn stands(part: &[u16], needle: &[u16], rows: &[bool; 64], j: usize, i: usize) -
     (part[j + i] == needle[k]) | rows[16 * i + j]
 }
 
-// Whether the needle's first four letters stand anywhere in the block.
+// Whether the needle's first four letters stand anywhere in a block, as far as they are asked for. Where they do not, the index of its compare is b. The
+// tests are joined with no branch, so that the compiler makes them compares of whole vectors.
 fn may_start(part: &[u16], needle: &[u16], rows: &[bool; 64]) -> bool
     requires { ⌜ (length (now part) ≡ 11) × (0 < length (now needle)) ⌝ }
     ensures { λ r. ⌜ (r ≡ false → (j : ℕ) → j < 8 → startsAt (now (part .entry)) (now (needle .entry)) (now (rows .entry)) j ≡ false) ⌝ }
@@ -69,7 +70,7 @@ fn may_start(part: &[u16], needle: &[u16], rows: &[bool; 64]) -> bool
     found
 }
 
-// The position after the whole blocks from `from` on in which the needle's first four letters stand nowhere.
+// The position after the whole blocks from `from` on in which they stand nowhere.
 fn clear(text: &[u16], needle: &[u16], rows: &[bool; 64], from: usize) -> usize
     requires { ⌜ (length (now text) ≤ longestText) × (length (now needle) ≤ longestNeedle) × (0 < length (now needle)) ⌝ }
     requires { ⌜ (now rows ≡ tabulate 64 (unaskedIn 8 (length (now needle)))) × (from ≤ length (now text) + 17) ⌝ }
@@ -90,7 +91,7 @@ fn clear(text: &[u16], needle: &[u16], rows: &[bool; 64], from: usize) -> usize
 }
 
 impl Cursor {
-    // The cursor past those blocks, each of which takes the walk one compare.
+    // The cursor past those blocks. Each takes the walk one compare, whose index is known without a call of the unit.
     fn skip_in_words(self, text: &[u16], needle: &[u16], rows: &[bool; 64]) -> Cursor
         requires { ⌜ (length (now text) ≤ longestText) × (length (now needle) ≤ longestNeedle) × (0 < length (now needle)) ⌝ }
         requires { ⌜ (now rows ≡ tabulate 64 (unaskedIn 8 (length (now needle)))) × (self .position ≤ length (now text) + 17) × (self .compares ≤ manyCompares) ⌝ }
@@ -146,7 +147,7 @@ impl Cursor {
         self.stepped(false, k as u64, self.compares + 1)
     }
 
-    // The walk from the cursor's position.
+    // The walk from the cursor's position. Each step begins at a block that may hold the needle's front.
     fn walk_in_words(self, text: &[u16], needle: &[u16]) -> Next
         requires { ⌜ (length (now text) ≤ longestText) × (length (now needle) ≤ longestNeedle) × (0 < length (now needle)) ⌝ }
         requires { ⌜ (self .position ≤ length (now text) + 1) × (self .compares ≤ mostCompares) ⌝ }
