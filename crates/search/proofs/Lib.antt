@@ -4,6 +4,7 @@ pub mod Compare
 pub mod Pieces
 pub mod Steps
 pub mod Walks
+pub mod Fronts
 pub mod Lists
 pub mod Callers
 pub mod Loops
