@@ -30,10 +30,10 @@ same-bytes-requires c κs = search needs
 
 returns : tie.Need-returns Inv-loop μ-loop
 returns c =
-    let l = c .before .before .before .before .before in
+    let l = c .before .before .before .before in
     let s = l .before in
     ordered-stop 16 (s .args .x1 .now) (s .args .l1) (s .args .x2 .now) (s .args .l2) (omega arith) (s .pre .0) (s .pre .1) (l .loop .i + 1) _
-    (ordered-turn 16 (s .args .x1 .now) (s .args .l1) (s .args .x2 .now) (s .args .l2) (omega arith) (s .pre .0) (s .pre .1) (l .loop .i) (c .before .before .before .before .loop-test .taken) (c .before .before .same-bytes .result) (s .args .valid) _ (l .loop .left) (c .before .before .same-bytes .ensures) (s .pre .2) past-sixteen (l .loop .inv .1))
+    (ordered-turn 16 (s .args .x1 .now) (s .args .l1) (s .args .x2 .now) (s .args .l2) (omega arith) (s .pre .0) (s .pre .1) (l .loop .i) (c .before .before .before .loop-test .taken) (c .before .same-bytes .result) (s .args .valid) _ (l .loop .left) (c .before .same-bytes .ensures) (s .pre .2) past-sixteen (l .loop .inv .1))
     (omega arith)
 
 cast-result : tie.Need-cast-result Inv-loop μ-loop
@@ -53,7 +53,7 @@ returns-2 c =
     and-mask (left / 2 ^ (l .loop .i + 1)) 16
     ∙ ordered-settled 16 (s .args .x1 .now) (s .args .l1) (s .args .x2 .now) (s .args .l2) (omega arith) (s .pre .0) (s .pre .1) (l .loop .i + 1) left (omega arith)
     (ordered-turn 16 (s .args .x1 .now) (s .args .l1) (s .args .x2 .now) (s .args .l2) (omega arith) (s .pre .0) (s .pre .1) (l .loop .i) (c .before .before .before .before .loop-test .taken) (c .before .before .same-bytes .result) (s .args .valid) _ (l .loop .left) (c .before .before .same-bytes .ensures) (s .pre .2) past-sixteen (l .loop .inv .1))
-    (low-sixteen left (c .before .if1 .taken))
+    (low-sixteen left (c .if2 .taken))
 
 add-i : tie.Need-add-i Inv-loop μ-loop
 add-i c = search needs
@@ -63,9 +63,9 @@ loop-less c = search needs
 
 loop-again : tie.Need-loop-again Inv-loop μ-loop
 loop-again c =
-    let l = c .before .before .before .before in
+    let l = c .before .before .before .before .before in
     let s = l .before in
-    (omega arith, ordered-turn 16 (s .args .x1 .now) (s .args .l1) (s .args .x2 .now) (s .args .l2) (omega arith) (s .pre .0) (s .pre .1) (l .loop .i) (c .before .before .before .loop-test .taken) (c .before .same-bytes .result) (s .args .valid) _ (l .loop .left) (c .before .same-bytes .ensures) (s .pre .2) past-sixteen (l .loop .inv .1))
+    (omega arith, ordered-turn 16 (s .args .x1 .now) (s .args .l1) (s .args .x2 .now) (s .args .l2) (omega arith) (s .pre .0) (s .pre .1) (l .loop .i) (c .before .before .before .before .loop-test .taken) (c .before .before .same-bytes .result) (s .args .valid) _ (l .loop .left) (c .before .before .same-bytes .ensures) (s .pre .2) past-sixteen (l .loop .inv .1))
 
 cast-result-2 : tie.Need-cast-result-2 Inv-loop μ-loop
 cast-result-2 c = search needs
