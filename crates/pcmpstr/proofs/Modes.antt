@@ -9,13 +9,13 @@ use native.Mathlib.Omega.{arith}
 use lib.Dec.{eqb, ltb}
 use lib.ListN.{getD, replicate}
 use lib.IntN.{ℤ}
-use lib.Bits.{bitAnd, bitOr, bitXor, and-le-l, and-mod, and-shr, or-self, or-zero-l, or-zero-r}
+use lib.Bits.{bitAnd, bitOr, bitXor, and-le-l, and-mask, and-mod, and-shr, or-self, or-zero-l, or-zero-r}
 use lib.Pow.{field, mod-mod-pow, pow-pos, shl-shr, shr-shr}
 use borrow.Author.Tests.{eq-eqb, ne-eqb, lt-ltb, le-ltb}
 use Rattle.bits.specs.Bits.{allBelow, numberOf, tabulate}
-use Rattle.bits.proofs.Below.{and-over-or, or-true, and-true, and-false, any-more-below, all-cut, by-order, number-same}
+use Rattle.bits.proofs.Below.{and-over-or, or-true, and-true, and-false, any-more-below, all-cut, by-order, by-test, number-same}
 use Rattle.bits.proofs.Lists.{getD-tabulate, tabulate-same}
-use Rattle.bits.proofs.Numbers.{number-and, number-both, number-or, number-xor, number-cut, number-shift, number-zero, number-bits, no-bits}
+use Rattle.bits.proofs.Numbers.{number-and, number-both, number-or, number-xor, number-cut, number-shift, number-bit, number-zero, number-bits, no-bits}
 use Rattle.pcmpstr.specs.declared.Aggregation.the-variants.{EqualEach, EqualOrdered}
 use Rattle.pcmpstr.specs.Compare.{override}
 use Rattle.pcmpstr.specs.Parts.{isIn, anyOf, between, inRange, rangesOf, eachOf, follows, orderedOf}
@@ -178,6 +178,39 @@ turned b i l m h =
     ∙ and-mod (l / 2 ^ i) (m / 2 ^ i) b
     ∙ and-low b (l / 2 ^ i % 2 ^ b) (m / 2 ^ i) (mod-lt (l / 2 ^ i) (pow-pos b))
 
+-- a number with no bit below b has none below b - i once it is shifted down by i, and no bit j below b
+low-field : (b i l : ℕ) → i ≤ b → l % 2 ^ b ≡ 0 → l / 2 ^ i % 2 ^ (b - i) ≡ 0
+low-field b i l h e =
+    let n : b - i + i ≡ b = omega arith in
+    subst (λ (t : ℕ). l % 2 ^ t ≡ 0 → l / 2 ^ i % 2 ^ (b - i) ≡ 0) n (λ z. sym (field l (b - i) i) ∙ ap (λ (x : ℕ). x / 2 ^ i) z ∙ zero-div (2 ^ i)) e
+
+low-bit : (b j l : ℕ) → j < b → l % 2 ^ b ≡ 0 → l / 2 ^ j % 2 ≡ 0
+low-bit b j l h e =
+    let n : b - j - 1 + 1 ≡ b - j = omega arith in
+    sym (subst (λ (t : ℕ). l / 2 ^ j % 2 ^ t % 2 ^ 1 ≡ l / 2 ^ j % 2 ^ 1) n (mod-mod-pow (l / 2 ^ j) (b - j - 1) 1))
+    ∙ ap (λ (x : ℕ). x % 2 ^ 1) (low-field b j l (omega arith) e)
+    ∙ zero-mod (2 ^ 1)
+
+-- so the b bits from i on are not set where they lie below b
+none-below : (b i l : ℕ) (p : ℕ → Bool) → i ≤ b → l / 2 ^ i % 2 ^ b ≡ numberOf b p → l % 2 ^ b ≡ 0 → (j : ℕ) → i + j < b → p j ≡ false
+none-below b i l p h e z j u =
+    let n : i + (b - i) ≡ b = omega arith in
+    let low : numberOf b p % 2 ^ (b - i) ≡ 0 =
+    ap (λ (x : ℕ). x % 2 ^ (b - i)) (sym e)
+    ∙ subst (λ (t : ℕ). l / 2 ^ i % 2 ^ t % 2 ^ (b - i) ≡ l / 2 ^ i % 2 ^ (b - i)) n (mod-mod-pow (l / 2 ^ i) i (b - i))
+    ∙ low-field b i l h z in
+    by-test (p j)
+    (λ t. let q : _≡_ {A = ℕ} 1 0 = sym (rw t at (number-bit b j p (omega arith))) ∙ low-bit (b - i) j (numberOf b p) (omega arith) low in absurd (omega arith))
+    (λ t. t)
+
+-- sixteen bits of the mask of an early end
+pub low-sixteen : (l : ℕ) → bitAnd l 0x8000ffff ≡ 0 → l % 2 ^ 16 ≡ 0
+low-sixteen l e =
+    sym (mod-mod-pow l 0 16)
+    ∙ sym (and-mask (l % 2 ^ 16) 16)
+    ∙ sym (and-mod l 0x8000ffff 16)
+    ∙ ap (λ (x : ℕ). x % 2 ^ 16) e
+
 -- the first i elements of operand 1 stand in operand 2 from j on
 abbrev pub standingTo : ℕ → List ℕ → ℕ → List ℕ → ℕ → ℕ → ℕ → Bool
 standingTo b x₁ l₁ x₂ l₂ i j = allBelow (min i (b - j)) (follows x₁ l₁ x₂ l₂ j)
@@ -231,6 +264,16 @@ module _ (b : ℕ) (x₁ : List ℕ) (l₁ : ℕ) (x₂ : List ℕ) (l₂ : ℕ)
   ordered-end i u =
       number-same b (standingTo b x₁ l₁ x₂ l₂ i) (orderedOf b x₁ l₁ x₂ l₂)
       (λ j w. sym (all-cut (b - j) (min i (b - j)) (follows x₁ l₁ x₂ l₂ j) (omega arith) (λ t y z. rw (le-ltb t l₁ (omega arith)))))
+
+  -- where the first i stand only as far up that the others lie past the block, they decide
+  pub ordered-settled : (i l : ℕ) → i ≤ b → l / 2 ^ i % 2 ^ b ≡ numberOf b (standingTo b x₁ l₁ x₂ l₂ i) → l % 2 ^ b ≡ 0 → l / 2 ^ i % 2 ^ b ≡ numberOf b (orderedOf b x₁ l₁ x₂ l₂)
+  ordered-settled i l u e z =
+      e
+      ∙ number-same b (standingTo b x₁ l₁ x₂ l₂ i) (orderedOf b x₁ l₁ x₂ l₂)
+      (λ j w. by-order (i + j) b
+      (λ v. let f = none-below b i l (standingTo b x₁ l₁ x₂ l₂ i) u e z j v in
+      f ∙ sym (all-less (follows x₁ l₁ x₂ l₂ j) (min i (b - j)) (b - j) (omega arith) f))
+      (λ v. let m : min i (b - j) ≡ b - j = omega arith in rw m))
 
   -- where the first i stand nowhere, all stand nowhere
   pub ordered-none : (i l : ℕ) → l ≡ numberOf b (standingTo b x₁ l₁ x₂ l₂ i) → l ≡ 0 → 0 ≡ numberOf b (orderedOf b x₁ l₁ x₂ l₂)

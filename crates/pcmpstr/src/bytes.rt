@@ -124,8 +124,9 @@ pub fn differ(x1: &[u8; 16], l1: usize, x2: &[u8; 16], l2: usize) -> u32
 // Bit j: the valid elements of x1 stand in x2 from j on, as far as its sixteen go. `valid` has the bits of the valid elements of x2: the
 // caller makes it, so that it is a constant where a block is whole.
 // After i elements, bit j + i of `left` tells of j. Past the block nothing is compared, so every bit from 16 on counts as equal. It stops
-// once nothing is left, but never after the first element: bit 30 is a mark that the second turn shifts out. Whether a block holds the
-// first element is hard to foretell, and a branch foretold wrongly costs more than a compare.
+// once nothing is left, or nothing below bit 16, since what stands past it can no longer fall. It never stops after the first element: bit 30 is a
+// mark that the first turn shifts to bit 31, where both tests see it, and the second shifts out. Whether a block holds the first element is hard to
+// foretell, and a branch foretold wrongly costs more than a compare.
 pub fn equal_ordered(x1: &[u8; 16], l1: usize, x2: &[u8; 16], l2: usize, valid: u32) -> u32
     requires { ⌜ (l1 ≤ 16) × (l2 ≤ 16) × (valid ≡ numberOf 16 (λ j. ltb j l2)) ⌝ }
     ensures { λ r. ⌜ r ≡ numberOf 16 (orderedOf 16 (now (x1 .entry)) l1 (now (x2 .entry)) l2) ⌝ }
@@ -136,6 +137,9 @@ pub fn equal_ordered(x1: &[u8; 16], l1: usize, x2: &[u8; 16], l2: usize, valid: 
         left = (left & ((bits::same_bytes(x2, x1[i]) & valid) | 0xffff0000)) << 1;
         if left == 0 {
             return 0;
+        }
+        if left & 0x8000ffff == 0 {
+            return (left >> (i as u32 + 1)) & 0xffff;
         }
         i += 1;
     }

@@ -1,12 +1,12 @@
 -- `pcmpstr::bytes::equal_ordered` meets its contract. The invariant: bit j of the sixteen bits from i on of `left` says that the first i elements of
--- x1 stand in x2 from j on, as far as the block goes. Where `left` is 0, no longer part stands either. What else `left` holds, the mark
--- too, is never looked at. Assumes nothing.
-use Prim.Native.Nat.{ℕ, _≤_, _+_, _-_, _/_, _%_, _^_}
+-- x1 stand in x2 from j on, as far as the block goes. Where `left` is 0, no longer part stands either; where it has no bit below 16, what stands
+-- is decided. What else `left` holds, the mark too, is never looked at. Assumes nothing.
+use Prim.Native.Nat.{ℕ, _≤_, _+_, _*_, _-_, _/_, _%_, _^_}
 use mathlib.Core.Path.{_≡_, _∙_, ap}
-use lib.Bits.{and-mask}
+use lib.Bits.{bitAnd, bitOr, and-mask}
 use Rattle.bits.specs.Bits.{numberOf}
 use Rattle.bits.proofs.Numbers.{sixteen-ones, past-sixteen}
-use Rattle.pcmpstr.proofs.Modes.{standingTo, ordered-start, ordered-turn, ordered-stop, ordered-end}
+use Rattle.pcmpstr.proofs.Modes.{standingTo, ordered-start, ordered-turn, ordered-stop, ordered-settled, ordered-end, low-sixteen}
 use borrow.Author.Needs.{needs}
 use native.Mathlib.Omega.{arith}
 use Rattle.pcmpstr.proofs.bytes.equal_ordered.Statement.{statement}
@@ -36,6 +36,25 @@ returns c =
     (ordered-turn 16 (s .args .x1 .now) (s .args .l1) (s .args .x2 .now) (s .args .l2) (omega arith) (s .pre .0) (s .pre .1) (l .loop .i) (c .before .before .before .loop-test .taken) (c .before .same-bytes .result) (s .args .valid) _ (l .loop .left) (c .before .same-bytes .ensures) (s .pre .2) past-sixteen (l .loop .inv .1))
     (omega arith)
 
+cast-result : tie.Need-cast-result Inv-loop μ-loop
+cast-result c = search needs
+
+add-result : tie.Need-add-result Inv-loop μ-loop
+add-result c = search needs
+
+shr-result : tie.Need-shr-result Inv-loop μ-loop
+shr-result c = search needs
+
+returns-2 : tie.Need-returns-2 Inv-loop μ-loop
+returns-2 c =
+    let l = c .before .before .before .before .before in
+    let s = l .before in
+    let left : ℕ = (bitAnd (l .loop .left) (bitOr (bitAnd (c .before .before .same-bytes .result) (s .args .valid)) 4294901760) * 2 ^ 1) % 2 ^ 32 in
+    and-mask (left / 2 ^ (l .loop .i + 1)) 16
+    ∙ ordered-settled 16 (s .args .x1 .now) (s .args .l1) (s .args .x2 .now) (s .args .l2) (omega arith) (s .pre .0) (s .pre .1) (l .loop .i + 1) left (omega arith)
+    (ordered-turn 16 (s .args .x1 .now) (s .args .l1) (s .args .x2 .now) (s .args .l2) (omega arith) (s .pre .0) (s .pre .1) (l .loop .i) (c .before .before .before .before .loop-test .taken) (c .before .before .same-bytes .result) (s .args .valid) _ (l .loop .left) (c .before .before .same-bytes .ensures) (s .pre .2) past-sixteen (l .loop .inv .1))
+    (low-sixteen left (c .if2 .taken))
+
 add-i : tie.Need-add-i Inv-loop μ-loop
 add-i c = search needs
 
@@ -44,18 +63,18 @@ loop-less c = search needs
 
 loop-again : tie.Need-loop-again Inv-loop μ-loop
 loop-again c =
-    let l = c .before .before .before .before in
+    let l = c .before .before .before .before .before in
     let s = l .before in
-    (omega arith, ordered-turn 16 (s .args .x1 .now) (s .args .l1) (s .args .x2 .now) (s .args .l2) (omega arith) (s .pre .0) (s .pre .1) (l .loop .i) (c .before .before .before .loop-test .taken) (c .before .same-bytes .result) (s .args .valid) _ (l .loop .left) (c .before .same-bytes .ensures) (s .pre .2) past-sixteen (l .loop .inv .1))
+    (omega arith, ordered-turn 16 (s .args .x1 .now) (s .args .l1) (s .args .x2 .now) (s .args .l2) (omega arith) (s .pre .0) (s .pre .1) (l .loop .i) (c .before .before .before .before .loop-test .taken) (c .before .before .same-bytes .result) (s .args .valid) _ (l .loop .left) (c .before .before .same-bytes .ensures) (s .pre .2) past-sixteen (l .loop .inv .1))
 
-cast-result : tie.Need-cast-result Inv-loop μ-loop
-cast-result c = search needs
+cast-result-2 : tie.Need-cast-result-2 Inv-loop μ-loop
+cast-result-2 c = search needs
 
-shr-result : tie.Need-shr-result Inv-loop μ-loop
-shr-result c = search needs
+shr-result-2 : tie.Need-shr-result-2 Inv-loop μ-loop
+shr-result-2 c = search needs
 
-returns-2 : tie.Need-returns-2 Inv-loop μ-loop
-returns-2 c =
+returns-3 : tie.Need-returns-3 Inv-loop μ-loop
+returns-3 c =
     let l = c .before in
     let s = l .before in
     let e : s .args .l1 ≡ l .loop .i = omega arith in
@@ -74,9 +93,13 @@ equal-ordered-spec =
     element-copy-out-same-bytes
     same-bytes-requires
     returns
+    cast-result
+    add-result
+    shr-result
+    returns-2
     add-i
     loop-less
     loop-again
-    cast-result
-    shr-result
-    returns-2)
+    cast-result-2
+    shr-result-2
+    returns-3)

@@ -68,7 +68,8 @@ skip-in-words-requires-2 c κs =
     let s = l .before .before .before .before .before .before .before .before .before in
     let a = s .args in
     let t = c .before .before .before .step-in-words in
-    let on = step-onward true (a .text .now) (a .needle .now) (l .loop .at) (t .result) (t .ensures) (c .before .if1 .left) (c .before .before .before .before .loop-test .taken) in
+    let room : l .loop .at .position + length (a .needle .now) ≤ length (a .text .now) = omega (arith, c .before .before .before .before .loop-test .taken) in
+    let on = step-onward true (a .text .now) (a .needle .now) (l .loop .at) (t .result) (t .ensures) (c .before .if1 .left) room in
     let few = total-few true (a .text .now) (a .needle .now) (a .self) (t .result .cursor) (on .0 ∙ l .loop .inv .1) (s .pre .0 .0) (s .pre .0 .1) (s .pre .1 .1) in
     (s .pre .0, (l .before .before .before .unasked .ensures, omega (arith, on .2), few))
 
@@ -77,7 +78,7 @@ loop-less c =
     let l = c .before .before .before .before .before .before in
     let a = l .before .before .before .before .before .before .before .before .before .args in
     let t = c .before .before .before .before .step-in-words in
-    let room = c .before .before .before .before .before .loop-test .taken in
+    let room : l .loop .at .position + length (a .needle .now) ≤ length (a .text .now) = omega (arith, c .before .before .before .before .before .loop-test .taken) in
     let on = step-onward true (a .text .now) (a .needle .now) (l .loop .at) (t .result) (t .ensures) (c .before .before .if1 .left) room in
     nearer (length (a .needle .now)) (length (a .text .now)) (l .loop .at .position) (c .skip-in-words2 .result .position) room (omega (arith, on .1, c .skip-in-words2 .ensures .onwards))
 
@@ -86,7 +87,8 @@ loop-again c =
     let l = c .before .before .before .before .before .before in
     let a = l .before .before .before .before .before .before .before .before .before .args in
     let t = c .before .before .before .before .step-in-words in
-    let on = step-onward true (a .text .now) (a .needle .now) (l .loop .at) (t .result) (t .ensures) (c .before .before .if1 .left) (c .before .before .before .before .before .loop-test .taken) in
+    let room : l .loop .at .position + length (a .needle .now) ≤ length (a .text .now) = omega (arith, c .before .before .before .before .before .loop-test .taken) in
+    let on = step-onward true (a .text .now) (a .needle .now) (l .loop .at) (t .result) (t .ensures) (c .before .before .if1 .left) room in
     (c .skip-in-words2 .ensures .near, c .skip-in-words2 .ensures .same ∙ on .0 ∙ l .loop .inv .1)
 
 absent-requires : tie.Need-absent-requires Inv-loop μ-loop
