@@ -18,10 +18,10 @@ use Rattle.search.specs.Walk.{walkCount}
 use Rattle.search.specs.Cursors.{freshCursor, longestNeedle, nextMatch}
 use Rattle.search.specs.Calls.{cursorAfter}
 use Rattle.search.proofs.Lists.{calls-find-all}
+use Rattle.search.proofs.Callers.{finds, ends, position-within}
 use Rattle.report.specs.declared.Tally.{Tally}
 use Rattle.report.specs.Report.{longestInput, numberLine, matchLines}
 use Rattle.report.specs.Parts.{afterNext, Small, withMatch, Found}
-use Rattle.search.proofs.Callers.{finds, ends, position-within}
 use Rattle.report.proofs.Lines.{lines-more, length-lines}
 use Rattle.report.proofs.Pages.{line-put}
 

@@ -80,6 +80,6 @@ pub record Put (bytes before after : List ℕ) (r : ℕ) : Type 0 where
   pub page : after ≡ cond (ltb (length before) (length bytes)) before (bytes ++ drop (length bytes) before)
 
 -- The longest report: an empty needle stands at 65,536 positions of the longest text, 65,535 bytes, each in a line of 9; the totals take 19.
--- No report is longer (`report-fits` in proofs/Lengths.antt).
+-- No report is longer (`report-fits` in proofs/Listings.antt).
 abbrev pub longestReport : ℕ
 longestReport = 589843

@@ -9,6 +9,7 @@ use lib.ListN.{length, getD, take, drop, length-take, length-drop}
 use lib.Seq.{getD-take}
 use native.Mathlib.Omega.{arith}
 use native.Mathlib.Nat.{zero-add}
+use borrow.Author.Count.{below-more}
 use borrow.Author.Tests.{le-leb, eq-eqb}
 use Rattle.bits.specs.Bits.{tabulate}
 use Rattle.bits.proofs.Below.{by-order, or-true}
@@ -25,9 +26,17 @@ use Rattle.search.proofs.Walks.{plus-plus, walk-onward}
 -- ---- one place of a block
 
 -- nothing found, neither so far nor here
-pub none-of : (a b : Bool) → (a || b) ≡ false → (a ≡ false) × (b ≡ false)
+none-of : (a b : Bool) → (a || b) ≡ false → (a ≡ false) × (b ≡ false)
 none-of true b e = absurd (let z : _≡_ {A = ℕ} 0 1 = cc in omega arith)
 none-of false b e = (refl, e)
+
+-- one place more where nothing is found: `here` is what the letters come to at j
+pub none-more : (at : ℕ → Bool) (found here : Bool) (j : ℕ) → at j ≡ here → (found ≡ false → (k : ℕ) → k < j → at k ≡ false) → (found || here) ≡ false
+    → (k : ℕ) → k < j + 1
+    → at k ≡ false
+none-more at found here j e before z =
+    let n = none-of found here z in
+    below-more (λ k. at k ≡ false) j (before (n .0)) (e ∙ n .1)
 
 count-most : (words : Bool) → count words ≤ 16
 count-most true = omega arith

@@ -1,4 +1,4 @@
--- `report::Tally::begun` meets its contract. Assumes nothing.
+-- `report::Tally::begun` meets its contract: the cursor is the fresh one. Assumes nothing.
 use mathlib.Core.Path.{ap}
 use mathlib.Core.Bool.{true}
 use borrow.Author.Needs.{needs}

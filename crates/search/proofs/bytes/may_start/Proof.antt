@@ -1,13 +1,12 @@
 -- `search::bytes::may_start` meets its contract. The invariant: where nothing is found, the letters do not stand at any place
 -- passed. Assumes nothing.
 use Prim.Native.Nat.{ℕ, _-_, _≤_, _<_}
-use mathlib.Core.Path.{_≡_, _∙_}
+use mathlib.Core.Path.{_≡_}
 use mathlib.Core.Bool.{Bool, false, _&&_}
-use borrow.Author.Count.{below-more}
 use native.Mathlib.Omega.{arith}
 use borrow.Author.Needs.{needs}
 use Rattle.search.specs.Parts.{startsAt}
-use Rattle.search.proofs.Fronts.{none-of}
+use Rattle.search.proofs.Fronts.{none-more}
 use Rattle.search.proofs.bytes.may_start.Statement.{statement}
 use Rattle.search.proofs.bytes.may_start.Tie as tie
 
@@ -43,10 +42,8 @@ loop-again : tie.Need-loop-again Inv-loop μ-loop
 loop-again c =
     let l = c .before .before .before .before .before in
     let a = l .before .before .before .args in
-    let at : ℕ → Bool = λ k. startsAt (a .part .now) (a .needle .now) (a .rows .now) k in
     let here : Bool = ((c .before .before .before .stands .result && c .before .before .stands2 .result) && c .before .stands3 .result) && c .stands4 .result in
-    let e : at (l .loop .j) ≡ here = cc in
-    (omega arith, λ z. let n = none-of (l .loop .found) here z in below-more (λ k. at k ≡ false) (l .loop .j) (l .loop .inv .1 (n .0)) (e ∙ n .1))
+    (omega arith, none-more (startsAt (a .part .now) (a .needle .now) (a .rows .now)) (l .loop .found) here (l .loop .j) (cc) (l .loop .inv .1))
 
 returns : tie.Need-returns Inv-loop μ-loop
 returns c = λ z j h. c .before .loop .inv .1 z j (omega arith)

@@ -1,4 +1,4 @@
--- `search::bytes::stands` meets its contract. Assumes nothing.
+-- `search::bytes::stands` meets its contract: each read lies within its list, and the test is the definition's. Assumes nothing.
 use borrow.Author.Needs.{needs}
 use Rattle.search.proofs.bytes.stands.Statement.{statement}
 use Rattle.search.proofs.bytes.stands.Tie as tie

@@ -1,4 +1,4 @@
--- `search::words::stands` meets its contract. Assumes nothing.
+-- `search::words::stands` meets its contract: each read lies within its list, and the test is the definition's. Assumes nothing.
 use borrow.Author.Needs.{needs}
 use Rattle.search.proofs.words.stands.Statement.{statement}
 use Rattle.search.proofs.words.stands.Tie as tie
