@@ -1,0 +1,98 @@
+-- Laws of what crosses to C: a call with refusal 0 writes, and any other leaves what stood there. Assumes nothing.
+use Prim.Native.Nat.{ℕ, _+_}
+use mathlib.Core.Path.{_≡_, refl, sym, ap, subst, _∙_}
+use mathlib.Core.Bool.{Bool, true, false, cond, _&&_}
+use mathlib.Core.List.{List, []}
+use lib.Dec.{eqb}
+use lib.IntN.{ℤ, pos}
+use lib.ListN.{length}
+use lib.Signed.{ltZ}
+use borrow.Author.Tests.{eq-eqb, ne-eqb}
+use Rattle.pcmpstr.specs.declared.Flags.{Flags}
+use Rattle.pcmpstr.specs.declared.IndexAnswer.{IndexAnswer}
+use Rattle.pcmpstr.specs.declared.MaskAnswer.{MaskAnswer}
+use Rattle.search.specs.declared.Cursor.{Cursor}
+use Rattle.search.specs.declared.Next.{Next}
+use Rattle.search.specs.declared.Next.the-variants.{Match, Absent, Refused}
+use Rattle.text.specs.declared.OrderAnswer.{OrderAnswer}
+use Rattle.text.specs.Orders.{isSecond, order, orderAnswer, orderRefusal}
+use Rattle.capi.specs.Crossing.{eflags, IndexGiven, LesserGiven, MaskGiven, NextGiven, NumberGiven, numbersOf, OrderGiven, unlessRefused}
+
+pub written : {A : Type 0} (number : ℕ) (new old : A) → number ≡ 0 → new ≡ unlessRefused number new old
+written number new old e = sym (ap (λ (t : Bool). cond t new old) (eq-eqb number 0 e))
+
+pub kept : {A : Type 0} (number : ℕ) (new old : A) → (number ≡ 0 → ⊥) → old ≡ unlessRefused number new old
+kept number new old ne = sym (ap (λ (t : Bool). cond t new old) (ne-eqb number 0 ne))
+
+-- ---- the unit
+
+pub eflags-sum : (f : Flags) (a b c d e g : ℕ)
+    → a ≡ cond (f .carry) 1 0 → b ≡ cond (f .parity) 4 0 → c ≡ cond (f .auxiliary) 16 0 → d ≡ cond (f .zero) 64 0 → e ≡ cond (f .sign) 128 0 → g ≡ cond (f .overflow) 2048 0
+    → a + b + c + d + e + g ≡ eflags f
+unfolding eflags
+eflags-sum f a b c d e g ha hb hc hd he hg = rw (ha, hb, hc, hd, he, hg) refl
+
+pub index-written : (a : IndexAnswer) (index flags flags' : ℕ) → a .refusal ≡ 0 → flags' ≡ eflags (a .flags) → IndexGiven a index flags (a .refusal) (a .index) flags'
+index-written a index flags flags' e made =
+    record { number = refl; index-after = written (a .refusal) (a .index) index e; flags-after = made ∙ written (a .refusal) (eflags (a .flags)) flags e }
+
+pub index-kept : (a : IndexAnswer) (index flags : ℕ) → (a .refusal ≡ 0 → ⊥) → IndexGiven a index flags (a .refusal) index flags
+index-kept a index flags ne =
+    record { number = refl; index-after = kept (a .refusal) (a .index) index ne; flags-after = kept (a .refusal) (eflags (a .flags)) flags ne }
+
+pub mask-written : (a : MaskAnswer) (mask : List ℕ) (flags flags' : ℕ) → a .refusal ≡ 0 → flags' ≡ eflags (a .flags) → MaskGiven a mask flags (a .refusal) (a .mask) flags'
+mask-written a mask flags flags' e made =
+    record { number = refl; mask-after = written (a .refusal) (a .mask) mask e; flags-after = made ∙ written (a .refusal) (eflags (a .flags)) flags e }
+
+pub mask-kept : (a : MaskAnswer) (mask : List ℕ) (flags : ℕ) → (a .refusal ≡ 0 → ⊥) → MaskGiven a mask flags (a .refusal) mask flags
+mask-kept a mask flags ne =
+    record { number = refl; mask-after = kept (a .refusal) (a .mask) mask ne; flags-after = kept (a .refusal) (eflags (a .flags)) flags ne }
+
+-- ---- the search
+
+pub match-written : (a : Next) (p : ℕ) (c : Cursor) (ns ns' : List ℕ) (old : ℕ) → a ≡ Match p c → ns' ≡ numbersOf c → NextGiven a ns old 0 ns' p
+match-written a p c ns ns' old e made =
+    subst (λ (n : Next). NextGiven n ns old 0 ns' p) (sym e) (record { status = refl; cursor-after = made; position-after = refl })
+
+pub absent-written : (a : Next) (c : Cursor) (ns ns' : List ℕ) (old : ℕ) → a ≡ Absent c → ns' ≡ numbersOf c → NextGiven a ns old 256 ns' old
+absent-written a c ns ns' old e made =
+    subst (λ (n : Next). NextGiven n ns old 256 ns' old) (sym e) (record { status = refl; cursor-after = made; position-after = refl })
+
+pub refused-kept : (a : Next) (number : ℕ) (c : Cursor) (ns : List ℕ) (old : ℕ) → a ≡ Refused number c → NextGiven a ns old number ns old
+refused-kept a number c ns old e =
+    subst (λ (n : Next). NextGiven n ns old number ns old) (sym e) (record { status = refl; cursor-after = refl; position-after = refl })
+
+-- ---- runs and orders
+
+pub number-written : (number told old r new : ℕ) → r ≡ number → r ≡ 0 → new ≡ told → NumberGiven number told old r new
+number-written number told old r new same e made =
+    record { refusal = same; told-after = made ∙ written number told old (sym same ∙ e) }
+
+pub number-kept : (number told old r : ℕ) → r ≡ number → (r ≡ 0 → ⊥) → NumberGiven number told old r old
+number-kept number told old r same ne =
+    record { refusal = same; told-after = kept number told old (λ e. ne (same ∙ e)) }
+
+pub order-written : (a : OrderAnswer) (old new : ℤ) → a .refusal ≡ 0 → new ≡ a .order → OrderGiven a old (a .refusal) new
+order-written a old new e made = record { refusal = refl; order-after = made ∙ written (a .refusal) (a .order) old e }
+
+pub order-kept : (a : OrderAnswer) (old : ℤ) → (a .refusal ≡ 0 → ⊥) → OrderGiven a old (a .refusal) old
+order-kept a old ne = record { refusal = refl; order-after = kept (a .refusal) (a .order) old ne }
+
+pub lesser-written : (a : OrderAnswer) (old new : ℕ) → a .refusal ≡ 0 → new ≡ cond (ltZ (pos 0) (a .order)) 1 0 → LesserGiven a old (a .refusal) new
+lesser-written a old new e made = record { refusal = refl; which-after = made ∙ written (a .refusal) (cond (ltZ (pos 0) (a .order)) 1 0) old e }
+
+pub lesser-kept : (a : OrderAnswer) (old : ℕ) → (a .refusal ≡ 0 → ⊥) → LesserGiven a old (a .refusal) old
+lesser-kept a old ne = record { refusal = refl; which-after = kept (a .refusal) (cond (ltZ (pos 0) (a .order)) 1 0) old ne }
+
+-- Where the order is not refused, the second text is the smaller just where the order is above 0.
+second-by-order : (words signed : Bool) (x y : List ℕ) (old : ℕ) (t : Bool) → eqb (orderRefusal (length x) (length y)) 0 ≡ t
+    → cond t (cond (ltZ (pos 0) (orderAnswer words signed x y .order)) 1 0) old ≡ cond t (cond (isSecond words signed x y) 1 0) old
+unfolding orderAnswer isSecond
+second-by-order words signed x y old true e = rw e refl
+second-by-order words signed x y old false e = refl
+
+pub which-is-second : (words signed : Bool) (x y : List ℕ) (old r new : ℕ)
+    → LesserGiven (orderAnswer words signed x y) old r new → NumberGiven (orderRefusal (length x) (length y)) (cond (isSecond words signed x y) 1 0) old r new
+unfolding orderAnswer
+which-is-second words signed x y old r new given =
+    record { refusal = given .refusal; told-after = given .which-after ∙ second-by-order words signed x y old (eqb (orderRefusal (length x) (length y)) 0) refl }

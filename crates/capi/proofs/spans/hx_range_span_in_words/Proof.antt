@@ -1,0 +1,42 @@
+-- The companion call gives the number, and the length is that of the part. Assumes nothing.
+use borrow.Author.Needs.{needs}
+use mathlib.Core.Path.{ap, _∙_}
+use mathlib.Core.Bool.{Bool, true}
+use lib.ListN.{length}
+use Rattle.text.specs.Spans.{boundsRefusal, rangeSpan}
+use Rattle.capi.specs.Crossing.{truth}
+use Rattle.capi.proofs.Crossings.{number-kept, number-written}
+use Rattle.capi.proofs.spans.hx_range_span_in_words.Statement.{statement}
+use Rattle.capi.proofs.spans.hx_range_span_in_words.Tie as tie
+use Rattle.capi.proofs.spans.hx_range_span_in_words.Reads as reads
+use Rattle.capi.proofs.spans.hx_range_span_in_words.Lts as lts
+use Rattle.capi.proofs.truth.Reads as truth-reads
+use Rattle.text.proofs.words.range_span.Reads as range-span-reads
+use Rattle.text.proofs.words.range_span_refusal.Reads as range-span-refusal-reads
+
+truth-requires : tie.Need-truth-requires
+truth-requires c κs = search needs
+
+range-span-refusal-requires : tie.Need-range-span-refusal-requires
+range-span-refusal-requires c κs = search needs
+
+range-span-requires : tie.Need-range-span-requires
+range-span-requires c κs = search needs
+
+returns : tie.Need-returns
+returns c =
+    let a = c .before .before .before .before .before .before .args in
+    let number = c .before .before .range-span-refusal in
+    let signed = c .before .before .before .truth .ensures in
+    number-written (boundsRefusal true (length (a .text .now)) (length (a .bounds .now))) (length (rangeSpan true (truth (a .signed)) (a .text .now) (a .bounds .now))) (a .span .now) (number .result) (length (c .range-span .result .now)) (number .ensures) (c .before .if1 .taken) (ap length (c .range-span .ensures .1 ∙ ap (λ (t : Bool). rangeSpan true t (a .text .now) (a .bounds .now)) signed))
+
+returns-2 : tie.Need-returns-2
+returns-2 c =
+    let a = c .before .before .before .before .before .args in
+    let number = c .before .range-span-refusal in
+    number-kept (boundsRefusal true (length (a .text .now)) (length (a .bounds .now))) (length (rangeSpan true (truth (a .signed)) (a .text .now) (a .bounds .now))) (a .span .now) (number .result) (number .ensures) (c .if1 .left)
+
+pub hx-range-span-in-words-spec : {M : Type 1} → statement M
+hx-range-span-in-words-spec =
+    tie.close
+    (tie.spec truth-requires range-span-refusal-requires range-span-requires returns returns-2)

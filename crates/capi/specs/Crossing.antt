@@ -1,0 +1,96 @@
+-- What crosses to C: a cursor as three numbers, the flags as one, an answer as a status and what is written through the caller's pointers. A refused call
+-- writes nothing.
+use Prim.Native.Nat.{ℕ, _+_}
+use mathlib.Core.Path.{_≡_}
+use mathlib.Core.Bool.{Bool, cond, not}
+use mathlib.Core.List.{List, [], _∷_}
+use lib.Dec.{eqb}
+use lib.IntN.{ℤ, pos}
+use lib.Signed.{ltZ}
+use lib.ListN.{getD, length}
+use Rattle.pcmpstr.specs.declared.Flags.{Flags}
+use Rattle.pcmpstr.specs.declared.IndexAnswer.{IndexAnswer}
+use Rattle.pcmpstr.specs.declared.MaskAnswer.{MaskAnswer}
+use Rattle.search.specs.declared.Cursor.{Cursor}
+use Rattle.search.specs.declared.Next.{Next}
+use Rattle.search.specs.declared.Next.the-variants.{Match, Absent, Refused}
+use Rattle.search.specs.Cursors.{cursorAt}
+use Rattle.text.specs.declared.OrderAnswer.{OrderAnswer}
+
+-- what stands behind a pointer after a call with this refusal: 0 writes the new value, and any other number leaves the old one
+abbrev pub unlessRefused : {A : Type 0} → ℕ → A → A → A
+unlessRefused number new old = cond (eqb number 0) new old
+
+-- a number that C hands over for a truth value: 0 is false, and any other is true
+abbrev pub truth : ℕ → Bool
+truth n = not (eqb n 0)
+
+-- ---- the unit
+
+-- the flags in the places that they have in the register EFLAGS: CF is bit 0, PF 2, AF 4, ZF 6, SF 7, OF 11
+unfoldable pub eflags : Flags → ℕ
+eflags f =
+    cond (f .carry) 1 0 + cond (f .parity) 4 0 + cond (f .auxiliary) 16 0 + cond (f .zero) 64 0 + cond (f .sign) 128 0 + cond (f .overflow) 2048 0
+
+-- an index call: its answer, index and flags before the call, what it returns, index and flags after it
+pub record IndexGiven (a : IndexAnswer) (index flags r index' flags' : ℕ) : Type 0 where
+  pub number : r ≡ a .refusal
+  pub index-after : index' ≡ unlessRefused (a .refusal) (a .index) index
+  pub flags-after : flags' ≡ unlessRefused (a .refusal) (eflags (a .flags)) flags
+
+-- a mask call, in the same way
+pub record MaskGiven (a : MaskAnswer) (mask : List ℕ) (flags r : ℕ) (mask' : List ℕ) (flags' : ℕ) : Type 0 where
+  pub number : r ≡ a .refusal
+  pub mask-after : mask' ≡ unlessRefused (a .refusal) (a .mask) mask
+  pub flags-after : flags' ≡ unlessRefused (a .refusal) (eflags (a .flags)) flags
+
+-- ---- the search
+
+-- a cursor as three numbers: position, compares, and whether it is exhausted
+abbrev pub numbersOf : Cursor → List ℕ
+numbersOf c = c .position ∷ c .compares ∷ cond (c .exhausted) 1 0 ∷ []
+
+-- the cursor that three numbers stand for
+abbrev pub cursorOf : List ℕ → Cursor
+cursorOf ns = cursorAt (getD ns 0 0) (getD ns 1 0) (truth (getD ns 2 0))
+
+-- what a call returns: 0 for a match, 256 for absent, which is above every refusal's number, or that number
+abbrev pub statusOf : Next → ℕ
+statusOf (Match p c) = 0
+statusOf (Absent c) = 256
+statusOf (Refused number c) = number
+
+-- the three numbers after a call: those of the cursor to go on with, or what stood there where it was refused
+abbrev pub cursorAfter : Next → List ℕ → List ℕ
+cursorAfter (Match p c) ns = numbersOf c
+cursorAfter (Absent c) ns = numbersOf c
+cursorAfter (Refused number c) ns = ns
+
+-- the match's position, or what stood there
+abbrev pub positionAfter : Next → ℕ → ℕ
+positionAfter (Match p c) old = p
+positionAfter (Absent c) old = old
+positionAfter (Refused number c) old = old
+
+-- next match: its answer, cursor and position before the call, what it returns, cursor and position after it
+pub record NextGiven (a : Next) (cursor : List ℕ) (position r : ℕ) (cursor' : List ℕ) (position' : ℕ) : Type 0 where
+  pub status : r ≡ statusOf a
+  pub cursor-after : cursor' ≡ cursorAfter a cursor
+  pub position-after : position' ≡ positionAfter a position
+
+-- ---- runs and orders
+
+-- a number that tells of a part or of a text: the refusal, and what is told
+pub record NumberGiven (number told old r new : ℕ) : Type 0 where
+  pub refusal : r ≡ number
+  pub told-after : new ≡ unlessRefused number told old
+
+-- an order
+pub record OrderGiven (a : OrderAnswer) (old : ℤ) (r : ℕ) (new : ℤ) : Type 0 where
+  pub refusal : r ≡ a .refusal
+  pub order-after : new ≡ unlessRefused (a .refusal) (a .order) old
+
+-- which text is the smaller: 0 the first, 1 the second
+pub record LesserGiven (a : OrderAnswer) (old r new : ℕ) : Type 0 where
+  pub refusal : r ≡ a .refusal
+  pub which-after : new ≡ unlessRefused (a .refusal) (cond (ltZ (pos 0) (a .order)) 1 0) old

@@ -1,0 +1,28 @@
+// The C interface: every public call of the libraries under a name that begins with `hx_`, for C and Rust to link (include/hirtxonda.h).
+//
+// A call returns the number of a refusal, or 0, and writes its results through the caller's pointers; a refused call writes nothing. Operands and masks are
+// sixteen bytes behind a pointer, texts a pointer and a length. What crosses is defined in specs/Crossing.antt. This file has what several calls share.
+mod columns;
+mod order;
+mod spans;
+mod unit;
+mod walk;
+
+ghost use mathlib.Core.Path.{_≡_};
+ghost use mathlib.Core.Bool.{cond};
+ghost use Prim.Native.Nat.{_≤_};
+ghost use Rattle.capi.specs.Crossing.{truth};
+
+// A truth value from C: 0 is false, and any other number is true.
+fn truth(n: u32) -> bool
+    ensures { λ r. ⌜ r ≡ truth n ⌝ }
+{
+    n != 0
+}
+
+// A bit of this weight, set or not.
+fn weighed(set: bool, weight: u32) -> u32
+    ensures { λ r. ⌜ (r ≡ cond set weight 0) × (r ≤ weight) ⌝ }
+{
+    if set { weight } else { 0 }
+}

@@ -1,0 +1,88 @@
+// The cursor and next match.
+use crate::truth;
+use crate::weighed;
+use search::Cursor;
+use search::Next;
+ghost use mathlib.Core.Path.{_≡_};
+ghost use mathlib.Core.Bool.{false, true};
+ghost use Rattle.search.specs.Cursors.{freshCursor, nextMatch};
+ghost use Rattle.capi.specs.Crossing.{cursorOf, NextGiven, numbersOf};
+
+// What a search returns where there is no more match. It is above every refusal's number.
+const ABSENT: u32 = 256;
+
+// The cursor that three numbers stand for.
+fn cursor_of(numbers: [u64; 3]) -> Cursor
+    ensures { λ r. ⌜ r ≡ cursorOf numbers ⌝ }
+{
+    Cursor {
+        position: numbers[0],
+        compares: numbers[1],
+        exhausted: numbers[2] != 0,
+    }
+}
+
+// A cursor as three numbers.
+fn numbers_of(cursor: Cursor) -> [u64; 3]
+    ensures { λ r. ⌜ r ≡ numbersOf cursor ⌝ }
+{
+    [
+        cursor.position,
+        cursor.compares,
+        weighed(cursor.exhausted, 1) as u64,
+    ]
+}
+
+// Hands the answer of a search to the caller.
+fn give_next(next: Next, cursor: &mut [u64; 3], position: &mut u64) -> u32
+    ensures { λ r. ⌜ NextGiven next (now (cursor .entry)) (now (position .entry)) r (now (cursor .exit)) (now (position .exit)) ⌝ }
+{
+    match next {
+        Next::Match(p, after) => {
+            *cursor = numbers_of(after);
+            *position = p;
+            0
+        }
+        Next::Absent(after) => {
+            *cursor = numbers_of(after);
+            ABSENT
+        }
+        Next::Refused(number, _) => number,
+    }
+}
+
+// The cursor of a first call.
+#[no_mangle]
+pub extern "C" fn hx_cursor_fresh(cursor: &mut [u64; 3])
+    ensures { λ _. ⌜ now (cursor .exit) ≡ numbersOf freshCursor ⌝ }
+{
+    *cursor = numbers_of(Cursor::fresh());
+}
+
+// The next match of a needle of bytes.
+#[no_mangle]
+pub extern "C" fn hx_next_in_bytes(
+    cursor: &mut [u64; 3],
+    text: &[u8],
+    needle: &[u8],
+    position: &mut u64,
+) -> u32
+    ensures { λ r. ⌜ NextGiven (nextMatch false (now (text .entry)) (now (needle .entry)) (cursorOf (now (cursor .entry)))) (now (cursor .entry)) (now (position .entry)) r (now (cursor .exit)) (now (position .exit)) ⌝ }
+{
+    let next = cursor_of(*cursor).next_in_bytes(text, needle);
+    give_next(next, cursor, position)
+}
+
+// The next match of a needle of words.
+#[no_mangle]
+pub extern "C" fn hx_next_in_words(
+    cursor: &mut [u64; 3],
+    text: &[u16],
+    needle: &[u16],
+    position: &mut u64,
+) -> u32
+    ensures { λ r. ⌜ NextGiven (nextMatch true (now (text .entry)) (now (needle .entry)) (cursorOf (now (cursor .entry)))) (now (cursor .entry)) (now (position .entry)) r (now (cursor .exit)) (now (position .exit)) ⌝ }
+{
+    let next = cursor_of(*cursor).next_in_words(text, needle);
+    give_next(next, cursor, position)
+}
