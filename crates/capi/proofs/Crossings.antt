@@ -64,13 +64,16 @@ refused-kept a number c ns old e =
 
 -- ---- runs and orders
 
-pub number-written : (number told old r new : ℕ) → r ≡ number → r ≡ 0 → new ≡ told → NumberGiven number told old r new
-number-written number told old r new same e made =
-    record { refusal = same; told-after = made ∙ written number told old (sym same ∙ e) }
+pub number-written : (number told old : ℕ) → number ≡ 0 → NumberGiven number told old number told
+number-written number told old e = record { refusal = refl; told-after = written number told old e }
 
-pub number-kept : (number told old r : ℕ) → r ≡ number → (r ≡ 0 → ⊥) → NumberGiven number told old r old
-number-kept number told old r same ne =
-    record { refusal = same; told-after = kept number told old (λ e. ne (same ∙ e)) }
+pub number-kept : (number told old : ℕ) → (number ≡ 0 → ⊥) → NumberGiven number told old number old
+number-kept number told old ne = record { refusal = refl; told-after = kept number told old ne }
+
+-- a number and what is told, under other names
+pub number-as : (number number' told told' old r new : ℕ) → number ≡ number' → told ≡ told' → NumberGiven number told old r new → NumberGiven number' told' old r new
+number-as number number' told told' old r new n t given =
+    subst (λ (k : ℕ). NumberGiven k told' old r new) n (subst (λ (k : ℕ). NumberGiven number k old r new) t given)
 
 pub order-written : (a : OrderAnswer) (old new : ℤ) → a .refusal ≡ 0 → new ≡ a .order → OrderGiven a old (a .refusal) new
 order-written a old new e made = record { refusal = refl; order-after = made ∙ written (a .refusal) (a .order) old e }

@@ -21,13 +21,13 @@ fn give_order(answer: OrderAnswer, order: &mut i32) -> u32
 }
 
 // Hands to the caller which text is the smaller: 0 the first, 1 the second.
-fn give_lesser(answer: OrderAnswer, which: &mut u32) -> u32
-    ensures { λ r. ⌜ LesserGiven answer (now (which .entry)) r (now (which .exit)) ⌝ }
+fn give_lesser(compared: OrderAnswer, which: &mut u32) -> u32
+    ensures { λ r. ⌜ LesserGiven compared (now (which .entry)) r (now (which .exit)) ⌝ }
 {
-    if answer.refusal == 0 {
-        *which = weighed(answer.order > 0, 1);
+    if compared.refusal == 0 {
+        *which = weighed(compared.order > 0, 1);
     }
-    answer.refusal
+    compared.refusal
 }
 
 // The order of two texts of bytes.

@@ -45,15 +45,15 @@ fn give_index(answer: IndexAnswer, index: &mut u32, flags: &mut u32) -> u32
 }
 
 // Hands a mask call's answer to the caller.
-fn give_mask(answer: MaskAnswer, mask: &mut [u8; 16], flags: &mut u32) -> u32
-    ensures { λ r. ⌜ MaskGiven answer (now (mask .entry)) (now (flags .entry)) r (now (mask .exit)) (now (flags .exit)) ⌝ }
+fn give_mask(masked: MaskAnswer, mask: &mut [u8; 16], flags: &mut u32) -> u32
+    ensures { λ r. ⌜ MaskGiven masked (now (mask .entry)) (now (flags .entry)) r (now (mask .exit)) (now (flags .exit)) ⌝ }
 {
-    if answer.refusal == 0 {
-        let made = answer.mask;
+    if masked.refusal == 0 {
+        let made = masked.mask;
         *mask = made;
-        *flags = eflags(answer.flags);
+        *flags = eflags(masked.flags);
     }
-    answer.refusal
+    masked.refusal
 }
 
 // PCMPESTRI: explicit lengths, the answer an index.

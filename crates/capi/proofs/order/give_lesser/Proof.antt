@@ -15,12 +15,12 @@ weighed-requires c κs = search needs
 returns : tie.Need-returns
 returns c =
     let a = c .before .before .before .before .before .args in
-    lesser-written (a .answer) (a .which .now) (c .weighed .result) (c .before .before .before .if1 .taken) (rw (toZ-ofZ w32 (a .answer .order) (record { sfits = c .before .struct-told .given .1 .0 .1 })) at (c .weighed .ensures .0))
+    lesser-written (a .compared) (a .which .now) (c .weighed .result) (c .before .before .before .if1 .taken) (rw (toZ-ofZ w32 (a .compared .order) (record { sfits = c .before .struct-told .given .1 .0 .1 })) at (c .weighed .ensures .0))
 
 returns-2 : tie.Need-returns-2
 returns-2 c =
     let a = c .before .before .args in
-    lesser-kept (a .answer) (a .which .now) (c .if1 .left)
+    lesser-kept (a .compared) (a .which .now) (c .if1 .left)
 
 pub give-lesser-spec : {M : Type 1} → statement M
 give-lesser-spec = tie.close (tie.spec weighed-requires returns returns-2)

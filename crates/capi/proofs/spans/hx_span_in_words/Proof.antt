@@ -4,31 +4,32 @@ use mathlib.Core.Path.{ap}
 use mathlib.Core.Bool.{true}
 use lib.ListN.{length}
 use Rattle.text.specs.Spans.{setRefusal, setSpan}
-use Rattle.capi.proofs.Crossings.{number-kept, number-written}
+use Rattle.capi.proofs.Crossings.{number-as}
 use Rattle.capi.proofs.spans.hx_span_in_words.Statement.{statement}
 use Rattle.capi.proofs.spans.hx_span_in_words.Tie as tie
 use Rattle.capi.proofs.spans.hx_span_in_words.Reads as reads
 use Rattle.capi.proofs.spans.hx_span_in_words.Lts as lts
+use Rattle.capi.proofs.spans.give_length.Reads as give-length-reads
 use Rattle.text.proofs.words.span.Reads as span-reads
 use Rattle.text.proofs.words.span_refusal.Reads as span-refusal-reads
-
-span-refusal-requires : tie.Need-span-refusal-requires
-span-refusal-requires c κs = search needs
 
 span-requires : tie.Need-span-requires
 span-requires c κs = search needs
 
+span-refusal-requires : tie.Need-span-refusal-requires
+span-refusal-requires c κs = search needs
+
+give-length-requires : tie.Need-give-length-requires
+give-length-requires c κs = search needs
+
 returns : tie.Need-returns
 returns c =
-    let a = c .before .before .before .before .before .args in
+    let a = c .before .before .before .before .before .before .args in
     let number = c .before .before .span-refusal in
-    number-written (setRefusal true (length (a .text .now)) (length (a .set .now))) (length (setSpan true (a .text .now) (a .set .now))) (a .span .now) (number .result) (length (c .span .result .now)) (number .ensures) (c .before .if1 .taken) (ap length (c .span .ensures .1))
-
-returns-2 : tie.Need-returns-2
-returns-2 c =
-    let a = c .before .before .before .before .args in
-    let number = c .before .span-refusal in
-    number-kept (setRefusal true (length (a .text .now)) (length (a .set .now))) (length (setSpan true (a .text .now) (a .set .now))) (a .span .now) (number .result) (number .ensures) (c .if1 .left)
+    let part = c .before .before .before .span in
+    number-as (number .result) (setRefusal true (length (a .text .now)) (length (a .set .now))) (length (part .result .now)) (length (setSpan true (a .text .now) (a .set .now))) (a .span .now) (c .give-length .result) (c .give-length .last .1 .1 .0)
+    (number .ensures) (ap length (part .ensures .1)) (c .give-length .ensures)
 
 pub hx-span-in-words-spec : {M : Type 1} → statement M
-hx-span-in-words-spec = tie.close (tie.spec span-refusal-requires span-requires returns returns-2)
+hx-span-in-words-spec =
+    tie.close (tie.spec span-requires span-refusal-requires give-length-requires returns)

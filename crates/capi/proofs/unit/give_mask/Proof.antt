@@ -13,12 +13,12 @@ eflags-requires c κs = search needs
 returns : tie.Need-returns
 returns c =
     let a = c .before .before .before .before .args in
-    mask-written (a .answer) (a .mask .now) (a .flags .now) (c .eflags .result) (c .before .before .if1 .taken) (c .eflags .ensures)
+    mask-written (a .masked) (a .mask .now) (a .flags .now) (c .eflags .result) (c .before .before .if1 .taken) (c .eflags .ensures)
 
 returns-2 : tie.Need-returns-2
 returns-2 c =
     let a = c .before .before .args in
-    mask-kept (a .answer) (a .mask .now) (a .flags .now) (c .if1 .left)
+    mask-kept (a .masked) (a .mask .now) (a .flags .now) (c .if1 .left)
 
 pub give-mask-spec : {M : Type 1} → statement M
 give-mask-spec = tie.close (tie.spec eflags-requires returns returns-2)
