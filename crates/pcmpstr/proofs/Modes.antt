@@ -12,8 +12,8 @@ use lib.IntN.{ℤ}
 use lib.Bits.{bitAnd, bitOr, bitXor, and-le-l, and-mask, and-mod, and-shr, or-self, or-zero-l, or-zero-r}
 use lib.Pow.{field, mod-mod-pow, pow-pos, shl-shr, shr-shr}
 use borrow.Author.Tests.{eq-eqb, ne-eqb, lt-ltb, le-ltb}
-use Rattle.bits.specs.Bits.{allBelow, numberOf, tabulate}
-use Rattle.bits.proofs.Below.{and-over-or, or-true, and-true, and-false, any-more-below, all-cut, by-order, by-test, number-same}
+use Rattle.bits.specs.Bits.{allBelow, leastBelow, numberOf, tabulate}
+use Rattle.bits.proofs.Below.{and-over-or, or-true, and-true, and-false, any-more-below, all-cut, by-order, by-test, least-at, least-none, number-same}
 use Rattle.bits.proofs.Lists.{getD-tabulate, tabulate-same}
 use Rattle.bits.proofs.Numbers.{number-and, number-both, number-or, number-xor, number-cut, number-shift, number-bit, number-zero, number-bits, no-bits}
 use Rattle.pcmpstr.specs.declared.Aggregation.the-variants.{EqualEach, EqualOrdered}
@@ -131,6 +131,15 @@ pub differ-made : (b : ℕ) (x₁ x₂ : List ℕ) (l : ℕ) (e v ones : ℕ) �
 differ-made b x₁ x₂ l e v ones h h₁ o d f =
     rw (d, first-cut b l v h h₁ f, o, number-xor b (λ j. eqb (getD x₂ j 0) (getD x₁ j 0)) (λ j. true), number-both b (λ j. not (eqb (getD x₂ j 0) (getD x₁ j 0))) (λ j. ltb j l))
     (number-same b _ (λ j. not (eachOf x₁ l x₂ l j)) (λ i u. one-length (ltb i l) (eqb (getD x₂ i 0) (getD x₁ i 0))))
+
+-- the first place where they do, and none
+pub differ-first : (b : ℕ) (x₁ x₂ : List ℕ) (l i : ℕ) → l ≤ b → i < l → ((k : ℕ) → k < i → getD x₂ k 0 ≡ getD x₁ k 0) → (getD x₂ i 0 ≡ getD x₁ i 0 → ⊥) → leastBelow b (λ j. not (eachOf x₁ l x₂ l j)) ≡ i
+differ-first b x₁ x₂ l i h u same ne =
+    least-at b (λ j. not (eachOf x₁ l x₂ l j)) i (omega arith) (λ k v. rw (lt-ltb k l (omega arith), eq-eqb (getD x₂ k 0) (getD x₁ k 0) (same k v)) refl) (rw (lt-ltb i l u, ne-eqb (getD x₂ i 0) (getD x₁ i 0) ne) refl)
+
+pub differ-nowhere : (b : ℕ) (x₁ x₂ : List ℕ) (l : ℕ) → ((k : ℕ) → k < l → getD x₂ k 0 ≡ getD x₁ k 0) → leastBelow b (λ j. not (eachOf x₁ l x₂ l j)) ≡ b
+differ-nowhere b x₁ x₂ l same =
+    least-none b (λ j. not (eachOf x₁ l x₂ l j)) (λ k v. by-order k l (λ u. rw (lt-ltb k l u, eq-eqb (getD x₂ k 0) (getD x₁ k 0) (same k u)) refl) (λ u. rw (le-ltb k l u) refl))
 
 -- ---- equal ordered
 

@@ -260,15 +260,11 @@ module _ (y₁ : List ℕ) (z₁ : ℤ) (y₂ : List ℕ) (z₂ : ℤ) (l₁ l�
       least-read 16 n (orderedOf 16 y₁ l₁ y₂ l₂) (omega arith) d
       ∙ (λ t. leastBelow 16 (orderedOf 16 y₁ (e₁ t) y₂ (e₂ t)))
 
-  -- the index, from the bits where the operands differ
-  pub differ-index : (w : Bool) → l₁ ≡ explicitLength (count w) z₁ → l₂ ≡ explicitLength (count w) z₂ → n ≡ numberOf (count w) (λ j. not (eachOf (elements w y₁) l₁ (elements w y₂) l₂ j)) → cond (eqb n 0) (count w) (trailingZeros 32 n) ≡ PCMPESTRI y₁ z₁ y₂ z₂ (cond w 25 24) .index
+  -- the index, from the least place where the operands differ
+  pub differ-index : (w : Bool) → l₁ ≡ explicitLength (count w) z₁ → l₂ ≡ explicitLength (count w) z₂ → n ≡ leastBelow (count w) (λ j. not (eachOf (elements w y₁) l₁ (elements w y₂) l₂ j)) → n ≡ PCMPESTRI y₁ z₁ y₂ z₂ (cond w 25 24) .index
   unfolding PCMPESTRI controlOf indexOf intRes2 intRes1 boolRes
-  differ-index true e₁ e₂ d =
-      least-read 8 n (λ j. not (eachOf (wordsOf y₁) l₁ (wordsOf y₂) l₂ j)) (omega arith) d
-      ∙ (λ t. leastBelow 8 (λ j. not (eachOf (wordsOf y₁) (e₁ t) (wordsOf y₂) (e₂ t) j)))
-  differ-index false e₁ e₂ d =
-      least-read 16 n (λ j. not (eachOf y₁ l₁ y₂ l₂ j)) (omega arith) d
-      ∙ (λ t. leastBelow 16 (λ j. not (eachOf y₁ (e₁ t) y₂ (e₂ t) j)))
+  differ-index true e₁ e₂ d = d ∙ (λ t. leastBelow 8 (λ j. not (eachOf (wordsOf y₁) (e₁ t) (wordsOf y₂) (e₂ t) j)))
+  differ-index false e₁ e₂ d = d ∙ (λ t. leastBelow 16 (λ j. not (eachOf y₁ (e₁ t) y₂ (e₂ t) j)))
 
 -- ---- the operands of a call
 

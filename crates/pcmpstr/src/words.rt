@@ -111,18 +111,30 @@ fn equal_each(x1: &[u16; 8], l1: usize, x2: &[u16; 8], l2: usize) -> u32
     (bits::alike_words(x2, x1) & v1 & v2) | ((v1 | v2) ^ 0xff)
 }
 
-// Bit j: equal each, negated. Parts of one length, as a search compares them, differ at a valid element or nowhere.
+// Where two parts of one length first differ, or 8. Word by word: the compiler makes no mask of a compare of eight words.
+fn differ_at(x1: &[u16; 8], x2: &[u16; 8], l: usize) -> u32
+    requires { ⌜ l ≤ 8 ⌝ }
+    ensures { λ r. ⌜ r ≡ leastBelow 8 (λ j. not (eachOf (now (x1 .entry)) l (now (x2 .entry)) l j)) ⌝ }
+{
+    let mut i = 0;
+    while i < l {
+        if x2[i] != x1[i] {
+            return i as u32;
+        }
+        i += 1;
+    }
+    8
+}
+
+// The least bit of equal each, negated, or 8. Parts of one length, as a search compares them, differ at a valid element or nowhere.
 pub fn differ(x1: &[u16; 8], l1: usize, x2: &[u16; 8], l2: usize) -> u32
     requires { ⌜ (l1 ≤ 8) × (l2 ≤ 8) ⌝ }
-    ensures { λ r. ⌜ r ≡ numberOf 8 (λ j. not (eachOf (now (x1 .entry)) l1 (now (x2 .entry)) l2 j)) ⌝ }
+    ensures { λ r. ⌜ r ≡ leastBelow 8 (λ j. not (eachOf (now (x1 .entry)) l1 (now (x2 .entry)) l2 j)) ⌝ }
 {
-    let same = bits::alike_words(x2, x1);
     if l1 == l2 {
-        return (same ^ 0xff) & bits::first(l1);
+        return differ_at(x1, x2, l1);
     }
-    let v1 = bits::first(l1);
-    let v2 = bits::first(l2);
-    ((same & v1 & v2) | ((v1 | v2) ^ 0xff)) ^ 0xff
+    bits::least(equal_each(x1, l1, x2, l2) ^ 0xff, 8)
 }
 
 // Bit j: the valid elements of x1 stand in x2 from j on, as far as its eight go. It stops once they stand nowhere, which it

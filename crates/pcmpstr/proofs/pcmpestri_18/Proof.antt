@@ -1,9 +1,11 @@
 -- `pcmpstr::pcmpestri_18` meets its contract: at that control IntRes2 is the number of `differ`, and the index its least bit.
 -- Assumes nothing.
 use mathlib.Core.Path.{_∙_}
-use mathlib.Core.Bool.{false}
+use mathlib.Core.Bool.{false, not}
 use lib.IntN.{pos}
 use native.Mathlib.Omega.{arith}
+use Rattle.bits.proofs.Numbers.{least-read}
+use Rattle.pcmpstr.specs.Parts.{eachOf}
 use Rattle.pcmpstr.proofs.Unit.{cut-explicit, differ-index}
 use borrow.Author.Needs.{needs}
 use Rattle.pcmpstr.proofs.pcmpestri_18.Statement.{statement}
@@ -29,8 +31,9 @@ returns c =
     let g = c .before .before .before .before .cut2 in
     let l₁ = cut-explicit 16 (s .args .length1) (f .result) (f .ensures) in
     let l₂ = cut-explicit 16 (s .args .length2) (g .result) (g .ensures) in
-    c .least .ensures
-    ∙ differ-index (s .args .t1) (pos (s .args .length1)) (s .args .t3) (pos (s .args .length2)) (f .result) (g .result) (c .before .differ .result) false l₁ l₂ (c .before .differ .ensures)
+    let d = c .before .differ in
+    differ-index (s .args .t1) (pos (s .args .length1)) (s .args .t3) (pos (s .args .length2)) (f .result) (g .result) (c .least .result) false l₁ l₂
+    (c .least .ensures ∙ least-read 16 (d .result) (λ j. not (eachOf (s .args .t1) (f .result) (s .args .t3) (g .result) j)) (omega arith) (d .ensures))
 
 pub pcmpestri-18-spec : {M : Type 1} → statement M
 pcmpestri-18-spec =

@@ -1,6 +1,5 @@
--- `pcmpstr::pcmpestri_19` meets its contract: at that control IntRes2 is the number of `differ`, and the index its least bit.
+-- `pcmpstr::pcmpestri_19` meets its contract: at that control the index is where `differ` says.
 -- Assumes nothing.
-use mathlib.Core.Path.{_∙_}
 use mathlib.Core.Bool.{true}
 use lib.IntN.{pos}
 use native.Mathlib.Omega.{arith}
@@ -25,18 +24,15 @@ differ-requires : tie.Need-differ-requires
 differ-requires c κs =
     (omega (arith, c .before .before .before .cut .ensures), omega (arith, c .before .before .cut2 .ensures))
 
-least-requires : tie.Need-least-requires
-least-requires c κs = search needs
-
 returns : tie.Need-returns
 returns c =
-    let s = c .before .before .before .before .before .before .before .before in
-    let f = c .before .before .before .before .before .cut in
-    let g = c .before .before .before .before .cut2 in
+    let s = c .before .before .before .before .before .before .before in
+    let f = c .before .before .before .before .cut in
+    let g = c .before .before .before .cut2 in
     let l₁ = cut-explicit 8 (s .args .length1) (f .result) (f .ensures) in
     let l₂ = cut-explicit 8 (s .args .length2) (g .result) (g .ensures) in
-    c .least .ensures
-    ∙ differ-index (s .args .operand1) (pos (s .args .length1)) (s .args .operand2) (pos (s .args .length2)) (f .result) (g .result) (c .before .differ .result) true l₁ l₂ (rw (c .before .before .before .before .before .before .before .words-of .ensures, c .before .before .before .before .before .before .words-of2 .ensures) at (c .before .differ .ensures))
+    differ-index (s .args .operand1) (pos (s .args .length1)) (s .args .operand2) (pos (s .args .length2)) (f .result) (g .result) (c .differ .result) true l₁ l₂
+    (rw (c .before .before .before .before .before .before .words-of .ensures, c .before .before .before .before .before .words-of2 .ensures) at (c .differ .ensures))
 
 pub pcmpestri-19-spec : {M : Type 1} → statement M
 pcmpestri-19-spec =
@@ -47,5 +43,4 @@ pcmpestri-19-spec =
     cut-requires
     cut-requires-2
     differ-requires
-    least-requires
     returns)

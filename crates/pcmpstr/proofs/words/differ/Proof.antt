@@ -1,4 +1,4 @@
--- `pcmpstr::words::differ` meets its contract: with one length for both, the valid elements that differ; else equal each with every bit negated.
+-- `pcmpstr::words::differ` meets its contract: with one length for both, the first word that differs; else the least bit of equal each with every bit negated.
 -- Assumes nothing.
 use Prim.Native.Nat.{ℕ}
 use mathlib.Core.Path.{ap, _∙_}
@@ -6,46 +6,33 @@ use mathlib.Core.Bool.{true, not}
 use lib.Bits.{bitXor}
 use native.Mathlib.Omega.{arith}
 use borrow.Author.Needs.{needs}
-use Rattle.bits.specs.Bits.{numberOf}
-use Rattle.bits.proofs.Numbers.{number-xor, eight-ones}
+use Rattle.bits.specs.Bits.{leastBelow}
+use Rattle.bits.proofs.Numbers.{eight-ones, least-read, number-xor}
 use Rattle.pcmpstr.specs.Parts.{eachOf}
-use Rattle.pcmpstr.proofs.Modes.{each-made, differ-made}
 use Rattle.pcmpstr.proofs.words.differ.Statement.{statement}
 use Rattle.pcmpstr.proofs.words.differ.Tie as tie
 
-alike-words-requires : tie.Need-alike-words-requires
-alike-words-requires c κs = search needs
-
-first-requires : tie.Need-first-requires
-first-requires c κs = search needs
+differ-at-requires : tie.Need-differ-at-requires
+differ-at-requires c κs = search needs
 
 returns : tie.Need-returns
 returns c =
-    let s = c .before .before .before in
-    let a = s .args in
-    differ-made 8 (a .x1 .now) (a .x2 .now) (a .l1) (c .before .before .alike-words .result) (c .first .result) _ (omega arith) (s .pre .0) eight-ones (c .before .before .alike-words .ensures) (c .first .ensures)
-    ∙ ap (λ (l : ℕ). numberOf 8 (λ j. not (eachOf (a .x1 .now) (a .l1) (a .x2 .now) l j))) (c .before .if1 .taken)
+    let a = c .before .before .args in
+    c .differ-at .ensures ∙ ap (λ (l : ℕ). leastBelow 8 (λ j. not (eachOf (a .x1 .now) (a .l1) (a .x2 .now) l j))) (c .before .if1 .taken)
 
-first-requires-2 : tie.Need-first-requires-2
-first-requires-2 c κs = search needs
+equal-each-requires : tie.Need-equal-each-requires
+equal-each-requires c κs = search needs
 
-first-requires-3 : tie.Need-first-requires-3
-first-requires-3 c κs = search needs
+least-requires : tie.Need-least-requires
+least-requires c κs = search needs
 
 returns-2 : tie.Need-returns-2
 returns-2 c =
-    let s = c .before .before .before .before in
-    let a = s .args in
-    let made = each-made 8 (a .x1 .now) (a .l1) (a .x2 .now) (a .l2) (c .before .before .before .alike-words .result) (c .before .first2 .result) (c .first3 .result) _ (omega arith) (s .pre .0) (s .pre .1) eight-ones (c .before .before .before .alike-words .ensures) (c .before .first2 .ensures) (c .first3 .ensures) in
-    (λ t. bitXor (made t) (eight-ones t)) ∙ number-xor 8 (eachOf (a .x1 .now) (a .l1) (a .x2 .now) (a .l2)) (λ j. true)
+    let a = c .before .before .before .args in
+    let made = c .before .equal-each .ensures in
+    c .least .ensures
+    ∙ least-read 8 _ (λ j. not (eachOf (a .x1 .now) (a .l1) (a .x2 .now) (a .l2) j)) (omega arith) ((λ t. bitXor (made t) (eight-ones t)) ∙ number-xor 8 (eachOf (a .x1 .now) (a .l1) (a .x2 .now) (a .l2)) (λ j. true))
 
 pub differ-spec : {M : Type 1} → statement M
 differ-spec =
-    tie.close
-    (tie.spec
-    alike-words-requires
-    first-requires
-    returns
-    first-requires-2
-    first-requires-3
-    returns-2)
+    tie.close (tie.spec differ-at-requires returns equal-each-requires least-requires returns-2)

@@ -1,0 +1,558 @@
+// Times the proved search and the proved unit beside the processor's own instructions, the C library's memmem and a plain loop. tests/bench/run builds it, runs it and
+// makes the table.
+//
+//   bench search ROUNDS            a line for each case: all contenders, in turn, in one process
+//   bench real ROUNDS              a line for each case: the walk with the real instructions alone, to be run under an emulator
+//   bench growth ROUNDS            the proved search over texts of 64 KiB to 1 MiB
+//   bench unit ROUNDS              a call of the unit, averaged over the controls: the model and the instructions
+//   bench real-unit ROUNDS         the instructions alone; controls that an emulator does not have are left out
+//   bench entries ROUNDS           one compare at 0Ch and at 18h, block after block
+//
+// Times are the least of the rounds, in nanoseconds. Every contender's hits and compares are checked against the others'.
+#define _GNU_SOURCE
+#include <immintrin.h>
+#include <setjmp.h>
+#include <signal.h>
+#include <stdint.h>
+#include <stdio.h>
+#include <stdlib.h>
+#include <string.h>
+#include <time.h>
+
+#include "../../include/hirtxonda.h"
+
+#define MIB 1048576u
+
+static double now(void) {
+    struct timespec t;
+    clock_gettime(CLOCK_MONOTONIC, &t);
+    return (double)t.tv_sec * 1e9 + (double)t.tv_nsec;
+}
+
+static uint64_t state = 0x9e3779b97f4a7c15u;
+
+static uint32_t draw(uint32_t below) {
+    state ^= state << 13;
+    state ^= state >> 7;
+    state ^= state << 17;
+    return (uint32_t)((state >> 32) * below >> 32);
+}
+
+// ---- a made-up register: surname, given name, year, plot
+
+static const char *surnames[] = {
+    "SMITH", "JONES", "TAYLOR", "BROWN", "WILLIAMS", "WILSON", "JOHNSON", "DAVIES", "PATEL", "ROBINSON", "WRIGHT", "THOMPSON", "EVANS", "WALKER", "WHITE",
+    "ROBERTS", "GREEN", "HALL", "WOOD", "HARRIS", "MARTIN", "JACKSON", "CLARKE", "CLARK", "TURNER", "HILL", "SCOTT", "COOPER", "MORRIS", "WARD", "MOORE",
+    "KING", "WATSON", "BAKER", "HARRISON", "MORGAN", "YOUNG", "ALLEN", "ANDERSON", "MITCHELL", "SMYTHE", "PHILLIPS", "JAMES", "CAMPBELL", "BELL", "LEE", "KELLY",
+    "PARKER", "DAVIS", "BENNETT", "MILLER", "COOK", "SHAW", "PRICE", "COLLINS", "MURPHY", "HUGHES", "EDWARDS", "GRIFFITHS", "HARTLEY", "HARDING", "HARPER",
+    "SMITHSON", "STEWART", "STEVENS", "SIMPSON"};
+static const char *given[] = {"ANN", "MARY", "MARGARET", "ELIZABETH", "JOHN", "WILLIAM", "THOMAS", "GEORGE", "JAMES", "HENRY", "CHARLES", "SARAH", "ALICE", "EDITH",
+                              "FLORENCE", "ARTHUR", "ALBERT", "ROBERT", "JOSEPH", "EMMA", "ETHEL", "DORIS", "HAROLD", "FRANK", "ERNEST", "WALTER"};
+#define COUNT(a) (sizeof(a) / sizeof(*(a)))
+
+static void make_register(uint8_t *text, size_t n) {
+    size_t at = 0;
+    while (at < n) {
+        char line[96];
+        int k = snprintf(line, sizeof line, "%s, %s %u %c-%03u\n", surnames[draw(COUNT(surnames))], given[draw(COUNT(given))], 1850 + draw(170), 'A' + (int)draw(12),
+                         draw(400));
+        for (int i = 0; i < k && at < n; i++) text[at++] = (uint8_t)line[i];
+    }
+}
+
+// ---- the same walk with the processor's own instructions (document 01, "The walk"), what an office machine runs
+
+__attribute__((noinline)) static uint32_t real_next_in_bytes(hx_cursor *c, const uint8_t *text, size_t n, const uint8_t *needle, size_t m, uint64_t *position) {
+    if (n > HX_LONGEST_TEXT) return HX_TEXT_REFUSED;
+    if (m > HX_LONGEST_NEEDLE) return HX_NEEDLE_REFUSED;
+    if (c->exhausted) return HX_EXHAUSTED_REFUSED;
+    if (c->position > n + 1) return HX_POSITION_REFUSED;
+    if (c->compares > 1099511627776u) return HX_COMPARES_REFUSED;
+    size_t p = c->position;
+    uint64_t compares = c->compares;
+    int l = m < 16 ? (int)m : 16;
+    uint8_t front[16] = {0};
+    memcpy(front, needle, (size_t)l);
+    __m128i first = _mm_loadu_si128((const __m128i *)front);
+    while (p + m <= n) {
+        if (m == 0) goto found;
+        size_t left = n - p;
+        int k;
+        compares++;
+        if (left >= 16) {
+            k = _mm_cmpestri(first, l, _mm_loadu_si128((const __m128i *)(text + p)), 16, 0x0c);
+            left = 16;
+        } else {
+            uint8_t block[16] = {0};
+            memcpy(block, text + p, left);
+            k = _mm_cmpestri(first, l, _mm_loadu_si128((const __m128i *)block), (int)left, 0x0c);
+        }
+        if (k == 16) {
+            p += left;
+            continue;
+        }
+        if (k) {
+            p += (size_t)k;
+            continue;
+        }
+        size_t i = 16;
+        for (; i < m; i += 16) {
+            size_t piece = m - i < 16 ? m - i : 16;
+            int d;
+            compares++;
+            if (piece == 16) {
+                d = _mm_cmpestri(_mm_loadu_si128((const __m128i *)(needle + i)), 16, _mm_loadu_si128((const __m128i *)(text + p + i)), 16, 0x18);
+            } else {
+                uint8_t x[16] = {0}, y[16] = {0};
+                memcpy(x, needle + i, piece);
+                memcpy(y, text + p + i, piece);
+                d = _mm_cmpestri(_mm_loadu_si128((const __m128i *)x), (int)piece, _mm_loadu_si128((const __m128i *)y), (int)piece, 0x18);
+            }
+            if (d < 16) break;
+        }
+        if (i < m) {
+            p++;
+            continue;
+        }
+    found:
+        c->position = p + 1;
+        c->compares = compares;
+        *position = p;
+        return HX_MATCH;
+    }
+    c->compares = compares;
+    c->exhausted = 1;
+    return HX_ABSENT;
+}
+
+__attribute__((noinline)) static uint32_t real_next_in_words(hx_cursor *c, const uint16_t *text, size_t n, const uint16_t *needle, size_t m, uint64_t *position) {
+    if (n > HX_LONGEST_TEXT) return HX_TEXT_REFUSED;
+    if (m > HX_LONGEST_NEEDLE) return HX_NEEDLE_REFUSED;
+    if (c->exhausted) return HX_EXHAUSTED_REFUSED;
+    if (c->position > n + 1) return HX_POSITION_REFUSED;
+    if (c->compares > 1099511627776u) return HX_COMPARES_REFUSED;
+    size_t p = c->position;
+    uint64_t compares = c->compares;
+    int l = m < 8 ? (int)m : 8;
+    uint16_t front[8] = {0};
+    memcpy(front, needle, (size_t)l * 2);
+    __m128i first = _mm_loadu_si128((const __m128i *)front);
+    while (p + m <= n) {
+        if (m == 0) goto found;
+        size_t left = n - p;
+        int k;
+        compares++;
+        if (left >= 8) {
+            k = _mm_cmpestri(first, l, _mm_loadu_si128((const __m128i *)(text + p)), 8, 0x0d);
+            left = 8;
+        } else {
+            uint16_t block[8] = {0};
+            memcpy(block, text + p, left * 2);
+            k = _mm_cmpestri(first, l, _mm_loadu_si128((const __m128i *)block), (int)left, 0x0d);
+        }
+        if (k == 8) {
+            p += left;
+            continue;
+        }
+        if (k) {
+            p += (size_t)k;
+            continue;
+        }
+        size_t i = 8;
+        for (; i < m; i += 8) {
+            size_t piece = m - i < 8 ? m - i : 8;
+            int d;
+            compares++;
+            if (piece == 8) {
+                d = _mm_cmpestri(_mm_loadu_si128((const __m128i *)(needle + i)), 8, _mm_loadu_si128((const __m128i *)(text + p + i)), 8, 0x19);
+            } else {
+                uint16_t x[8] = {0}, y[8] = {0};
+                memcpy(x, needle + i, piece * 2);
+                memcpy(y, text + p + i, piece * 2);
+                d = _mm_cmpestri(_mm_loadu_si128((const __m128i *)x), (int)piece, _mm_loadu_si128((const __m128i *)y), (int)piece, 0x19);
+            }
+            if (d < 8) break;
+        }
+        if (i < m) {
+            p++;
+            continue;
+        }
+    found:
+        c->position = p + 1;
+        c->compares = compares;
+        *position = p;
+        return HX_MATCH;
+    }
+    c->compares = compares;
+    c->exhausted = 1;
+    return HX_ABSENT;
+}
+
+// ---- what is searched
+
+enum { BYTES, WORDS };
+
+typedef struct {
+    const char *name;
+    int width;
+    const void *text, *needle;
+    size_t n, m;
+} search_case;
+
+typedef struct {
+    uint64_t hits, sum, compares;
+} outcome;
+
+enum { PROVED, REAL, MEMMEM, LOOP, CONTENDERS };
+
+static outcome walk_all(const search_case *s, int real) {
+    outcome o = {0, 0, 0};
+    hx_cursor c;
+    uint64_t p;
+    hx_cursor_fresh(&c);
+    if (s->width == BYTES) {
+        uint32_t (*next)(hx_cursor *, const uint8_t *, size_t, const uint8_t *, size_t, uint64_t *) = real ? real_next_in_bytes : hx_next_in_bytes;
+        while (next(&c, s->text, s->n, s->needle, s->m, &p) == HX_MATCH) o.hits++, o.sum += p;
+    } else {
+        uint32_t (*next)(hx_cursor *, const uint16_t *, size_t, const uint16_t *, size_t, uint64_t *) = real ? real_next_in_words : hx_next_in_words;
+        while (next(&c, s->text, s->n, s->needle, s->m, &p) == HX_MATCH) o.hits++, o.sum += p;
+    }
+    o.compares = c.compares;
+    return o;
+}
+
+static outcome memmem_all(const search_case *s) {
+    outcome o = {0, 0, 0};
+    const uint8_t *text = s->text, *at = text, *end = text + s->n;
+    while ((at = memmem(at, (size_t)(end - at), s->needle, s->m)) != NULL) {
+        o.hits++;
+        o.sum += (uint64_t)(at - text);
+        at++;
+    }
+    return o;
+}
+
+__attribute__((noinline)) static outcome loop_all(const search_case *s) {
+    outcome o = {0, 0, 0};
+    if (s->width == BYTES) {
+        const uint8_t *x = s->text, *y = s->needle;
+        for (size_t p = 0; p + s->m <= s->n; p++) {
+            size_t i = 0;
+            while (i < s->m && x[p + i] == y[i]) i++;
+            if (i == s->m) o.hits++, o.sum += p;
+        }
+    } else {
+        const uint16_t *x = s->text, *y = s->needle;
+        for (size_t p = 0; p + s->m <= s->n; p++) {
+            size_t i = 0;
+            while (i < s->m && x[p + i] == y[i]) i++;
+            if (i == s->m) o.hits++, o.sum += p;
+        }
+    }
+    return o;
+}
+
+static outcome run(const search_case *s, int contender) {
+    switch (contender) {
+    case PROVED: return walk_all(s, 0);
+    case REAL: return walk_all(s, 1);
+    case MEMMEM: return memmem_all(s);
+    default: return loop_all(s);
+    }
+}
+
+static search_case cases[64];
+static size_t case_count;
+
+static void add(const char *name, int width, const void *text, size_t n, const void *needle, size_t m) {
+    search_case s = {name, width, text, needle, n, m};
+    cases[case_count++] = s;
+}
+
+static void *fresh(size_t bytes) {
+    void *at = malloc(bytes + 64);
+    if (!at) abort();
+    return at;
+}
+
+static const uint16_t *widened(const uint8_t *x, size_t n) {
+    uint16_t *y = fresh(n * 2);
+    for (size_t i = 0; i < n; i++) y[i] = x[i];
+    return y;
+}
+
+// A text of n - 1 A and a B, a needle of m - 1 A and a B: the most compares for these sizes (document 02 [7]).
+static void add_worst(const char *name, int width, size_t n, size_t m) {
+    uint8_t *text = fresh(n), *needle = fresh(m);
+    memset(text, 'A', n);
+    memset(needle, 'A', m);
+    text[n - 1] = needle[m - 1] = 'B';
+    if (width == BYTES) add(name, BYTES, text, n, needle, m);
+    else add(name, WORDS, widened(text, n), n, widened(needle, m), m);
+}
+
+static void make_cases(size_t n) {
+    uint8_t *text = fresh(n);
+    make_register(text, n);
+    const uint16_t *wide = widened(text, n);
+    static const char *names[] = {"LEE", "SMITH", "JONES", "QUIRK", "HARTE", "MARGARET", "ANDERSEN"};
+    for (int width = BYTES; width <= WORDS; width++) {
+        for (size_t i = 0; i < COUNT(names); i++) {
+            const uint8_t *needle = (const uint8_t *)names[i];
+            size_t m = strlen(names[i]);
+            if (width == BYTES) add(names[i], BYTES, text, n, needle, m);
+            else add(names[i], WORDS, wide, n, widened(needle, m), m);
+        }
+        // longer needles stand in the register once, at its middle, from the start of an entry
+        size_t at = n / 2;
+        while (text[at - 1] != '\n') at++;
+        static const size_t lengths[] = {16, 17, 61, 1024};
+        static const char *labels[] = {"16 letters", "17 letters", "61 letters", "1,024 letters"};
+        for (size_t i = 0; i < COUNT(lengths); i++) {
+            if (width == BYTES) add(labels[i], BYTES, text, n, text + at, lengths[i]);
+            else add(labels[i], WORDS, wide, n, wide + at, lengths[i]);
+        }
+        add_worst("worst case, 16", width, n, 16);
+        add_worst("worst case, 61", width, n / 4, 61);
+        add_worst("worst case, 1,024", width, n / 16, 1024);
+    }
+}
+
+static void check(const search_case *s, int contender, outcome a, outcome b) {
+    if (a.hits != b.hits || a.sum != b.sum || (contender == REAL && a.compares != b.compares)) {
+        fprintf(stderr, "bench: %s: contender %d differs\n", s->name, contender);
+        exit(1);
+    }
+}
+
+static void time_search(int rounds) {
+    for (size_t i = 0; i < case_count; i++) {
+        const search_case *s = &cases[i];
+        double best[CONTENDERS];
+        outcome o = run(s, PROVED);
+        for (int k = 0; k < CONTENDERS; k++) best[k] = 1e300;
+        for (int r = 0; r < rounds; r++)
+            for (int k = 0; k < CONTENDERS; k++) {
+                if (k == MEMMEM && s->width == WORDS) continue;
+                if (k >= MEMMEM && r >= 5) continue;
+                double t = now();
+                outcome q = run(s, k);
+                t = now() - t;
+                check(s, k, q, o);
+                if (t < best[k]) best[k] = t;
+            }
+        printf("%s\t%d\t%zu\t%zu\t%llu\t%llu", s->name, s->width, s->n, s->m, (unsigned long long)o.hits, (unsigned long long)o.compares);
+        for (int k = 0; k < CONTENDERS; k++) printf("\t%.0f", best[k] > 1e299 ? 0.0 : best[k]);
+        printf("\n");
+        fflush(stdout);
+    }
+}
+
+static void time_real(int rounds) {
+    for (size_t i = 0; i < case_count; i++) {
+        double best = 1e300;
+        outcome o = {0, 0, 0};
+        for (int r = 0; r < rounds; r++) {
+            double t = now();
+            o = run(&cases[i], REAL);
+            t = now() - t;
+            if (t < best) best = t;
+        }
+        printf("%s\t%d\t%llu\t%.0f\n", cases[i].name, cases[i].width, (unsigned long long)o.compares, best);
+        fflush(stdout);
+    }
+}
+
+static void time_growth(int rounds) {
+    static const char *names[] = {"SMITH", "61 letters", "worst case, 16"};
+    for (size_t n = MIB / 16; n <= MIB; n *= 2) {
+        case_count = 0;
+        state = 0x9e3779b97f4a7c15u;
+        make_cases(n);
+        for (size_t i = 0; i < case_count; i++)
+            for (size_t k = 0; k < COUNT(names); k++) {
+                if (strcmp(cases[i].name, names[k])) continue;
+                double best = 1e300;
+                outcome o = {0, 0, 0};
+                for (int r = 0; r < rounds; r++) {
+                    double t = now();
+                    o = run(&cases[i], PROVED);
+                    t = now() - t;
+                    if (t < best) best = t;
+                }
+                printf("%s\t%d\t%zu\t%llu\t%.0f\n", cases[i].name, cases[i].width, n, (unsigned long long)o.compares, best);
+            }
+    }
+}
+
+// ---- the unit
+
+#define BLOCKS 256
+
+typedef struct {
+    uint8_t a[16], b[16];
+    int32_t l1, l2;
+} block;
+
+static block blocks[BLOCKS];
+
+static void make_blocks(void) {
+    for (int i = 0; i < BLOCKS; i++) {
+        block *x = &blocks[i];
+        uint32_t letters = i % 3 == 0 ? 256 : i % 3 == 1 ? 3 : 26;
+        for (int j = 0; j < 16; j++) {
+            x->a[j] = (uint8_t)(draw(letters) + (letters == 26 ? 'A' : 0));
+            x->b[j] = (uint8_t)(draw(letters) + (letters == 26 ? 'A' : 0));
+        }
+        x->l1 = (int32_t)draw(18);
+        x->l2 = (int32_t)draw(18);
+    }
+}
+
+// each call of the real unit with its answer and all flags, at a constant control
+#define FLAGS(K, A, L1, B, L2) \
+    (uint32_t)(_mm_cmpestrc(A, L1, B, L2, K) | _mm_cmpestrz(A, L1, B, L2, K) << 6 | _mm_cmpestrs(A, L1, B, L2, K) << 7 | _mm_cmpestro(A, L1, B, L2, K) << 11)
+#define IFLAGS(K, A, B) (uint32_t)(_mm_cmpistrc(A, B, K) | _mm_cmpistrz(A, B, K) << 6 | _mm_cmpistrs(A, B, K) << 7 | _mm_cmpistro(A, B, K) << 11)
+#define LOADS __m128i a = _mm_loadu_si128((const __m128i *)x->a), b = _mm_loadu_si128((const __m128i *)x->b)
+#define REAL_UNIT(K)                                                                                       \
+    static void real_##K(const block *x, int call, uint32_t *index, uint8_t *mask, uint32_t *flags) {      \
+        LOADS;                                                                                             \
+        switch (call) {                                                                                    \
+        case 0: *index = (uint32_t)_mm_cmpestri(a, x->l1, b, x->l2, K); *flags = FLAGS(K, a, x->l1, b, x->l2); break; \
+        case 1: _mm_storeu_si128((__m128i *)mask, _mm_cmpestrm(a, x->l1, b, x->l2, K)); *flags = FLAGS(K, a, x->l1, b, x->l2); break; \
+        case 2: *index = (uint32_t)_mm_cmpistri(a, b, K); *flags = IFLAGS(K, a, b); break;                 \
+        default: _mm_storeu_si128((__m128i *)mask, _mm_cmpistrm(a, b, K)); *flags = IFLAGS(K, a, b);       \
+        }                                                                                                  \
+    }
+#define EIGHT(M, D) M(D##0) M(D##1) M(D##2) M(D##3) M(D##4) M(D##5) M(D##6) M(D##7) M(D##8) M(D##9) M(D##a) M(D##b) M(D##c) M(D##d) M(D##e) M(D##f)
+#define ALL(M) EIGHT(M, 0x0) EIGHT(M, 0x1) EIGHT(M, 0x2) EIGHT(M, 0x3) EIGHT(M, 0x4) EIGHT(M, 0x5) EIGHT(M, 0x6) EIGHT(M, 0x7)
+ALL(REAL_UNIT)
+#define NAME(K) real_##K,
+static void (*const real_unit[128])(const block *, int, uint32_t *, uint8_t *, uint32_t *) = {ALL(NAME)};
+
+__attribute__((noinline)) static void proved_unit(const block *x, int call, uint8_t control, uint32_t *index, uint8_t *mask, uint32_t *flags) {
+    switch (call) {
+    case 0: hx_pcmpestri(x->a, x->l1, x->b, x->l2, control, index, flags); break;
+    case 1: hx_pcmpestrm(x->a, x->l1, x->b, x->l2, control, mask, flags); break;
+    case 2: hx_pcmpistri(x->a, x->b, control, index, flags); break;
+    default: hx_pcmpistrm(x->a, x->b, control, mask, flags);
+    }
+}
+
+static sigjmp_buf no_such_control;
+
+static void on_illegal(int signal) {
+    (void)signal;
+    siglongjmp(no_such_control, 1);
+}
+
+static double time_blocks(int control, int call, int real, uint64_t *digest) {
+    uint32_t index = 0, flags = 0;
+    uint8_t mask[16] = {0};
+    uint64_t sum = 0;
+    double t = now();
+    for (int i = 0; i < BLOCKS; i++) {
+        if (real) real_unit[control](&blocks[i], call, &index, mask, &flags);
+        else proved_unit(&blocks[i], call, (uint8_t)control, &index, mask, &flags);
+        uint64_t low;
+        memcpy(&low, mask, 8);
+        sum = sum * 31 + index + flags * 64u + low;
+    }
+    t = now() - t;
+    *digest = sum;
+    return t / BLOCKS;
+}
+
+// the least time of a call at a control, the model's and the instruction's; false where this processor, or its emulator, has no such control
+static int time_control(int rounds, int call, int control, int both, double best[2]) {
+    if (sigsetjmp(no_such_control, 1)) return 0;
+    for (int r = 0; r < rounds; r++) {
+        uint64_t digest[2] = {0, 0};
+        for (int real = both ? 0 : 1; real < 2; real++) {
+            double t = time_blocks(control, call, real, &digest[real]);
+            if (t < best[real]) best[real] = t;
+        }
+        if (both && digest[0] != digest[1]) {
+            fprintf(stderr, "bench: control %d, call %d: model and instruction differ\n", control, call);
+            exit(1);
+        }
+    }
+    return 1;
+}
+
+static void time_unit(int rounds, int both) {
+    make_blocks();
+    struct sigaction act = {0};
+    act.sa_handler = on_illegal;
+    act.sa_flags = SA_NODEFER;
+    sigaction(SIGILL, &act, NULL);
+    for (int call = 0; call < 4; call++)
+        for (int control = 0; control < 128; control++) {
+            double best[2] = {1e300, 1e300};
+            if (time_control(rounds, call, control, both, best)) printf("%d\t%d\t%.3f\t%.3f\n", call, control, both ? best[0] : 0.0, best[1]);
+        }
+}
+
+// ---- one compare, block after block
+
+static void time_entries(int rounds) {
+    size_t n = MIB;
+    uint8_t *text = fresh(n);
+    make_register(text, n);
+    static const char *names[] = {"SMITH", "JONES", "QUIRK", "HARTE"};
+    for (size_t i = 0; i < COUNT(names); i++) {
+        uint8_t front[16] = {0};
+        memcpy(front, names[i], 5);
+        __m128i first = _mm_loadu_si128((const __m128i *)front);
+        double best[2] = {1e300, 1e300};
+        for (int r = 0; r < rounds; r++) {
+            uint64_t sums[2] = {0, 0};
+            double t = now();
+            for (size_t p = 0; p + 16 <= n; p += 16) sums[0] += hx_pcmpestri_0c(front, 5, text + p, 16);
+            t = now() - t;
+            if (t < best[0]) best[0] = t;
+            t = now();
+            for (size_t p = 0; p + 16 <= n; p += 16) sums[1] += (uint64_t)_mm_cmpestri(first, 5, _mm_loadu_si128((const __m128i *)(text + p)), 16, 0x0c);
+            t = now() - t;
+            if (t < best[1]) best[1] = t;
+            if (sums[0] != sums[1]) exit(1);
+        }
+        printf("0Ch %s\t%.3f\t%.3f\n", names[i], best[0] / (n / 16), best[1] / (n / 16));
+    }
+    uint8_t *other = fresh(n);
+    memcpy(other, text, n);
+    for (size_t p = 0; p < n; p += 1 + draw(200)) other[p] ^= 1;
+    double best[2] = {1e300, 1e300};
+    for (int r = 0; r < rounds; r++) {
+        uint64_t sums[2] = {0, 0};
+        double t = now();
+        for (size_t p = 0; p + 16 <= n; p += 16) sums[0] += hx_pcmpestri_18(other + p, 16, text + p, 16);
+        t = now() - t;
+        if (t < best[0]) best[0] = t;
+        t = now();
+        for (size_t p = 0; p + 16 <= n; p += 16)
+            sums[1] += (uint64_t)_mm_cmpestri(_mm_loadu_si128((const __m128i *)(other + p)), 16, _mm_loadu_si128((const __m128i *)(text + p)), 16, 0x18);
+        t = now() - t;
+        if (t < best[1]) best[1] = t;
+        if (sums[0] != sums[1]) exit(1);
+    }
+    printf("18h whole blocks\t%.3f\t%.3f\n", best[0] / (n / 16), best[1] / (n / 16));
+}
+
+int main(int argc, char **argv) {
+    if (argc != 3) {
+        fprintf(stderr, "usage: bench search|real|growth|unit|real-unit|entries ROUNDS\n");
+        return 2;
+    }
+    int rounds = atoi(argv[2]);
+    if (!strcmp(argv[1], "growth")) time_growth(rounds);
+    else if (!strcmp(argv[1], "unit")) time_unit(rounds, 1);
+    else if (!strcmp(argv[1], "real-unit")) time_unit(rounds, 0);
+    else if (!strcmp(argv[1], "entries")) time_entries(rounds);
+    else {
+        make_cases(MIB);
+        if (!strcmp(argv[1], "search")) time_search(rounds);
+        else time_real(rounds);
+    }
+    return 0;
+}
