@@ -27,7 +27,7 @@
 //! # }
 //! ```
 
-#![deny(missing_docs)]
+#![deny(missing_docs, clippy::undocumented_unsafe_blocks)]
 
 mod refusal;
 mod unit;

@@ -177,3 +177,16 @@ at_one_control! {
     pcmpestri_19 hx_pcmpestri_19 "19h" "the same in words"
         r#"assert_eq!(hirtxonda::pcmpestri_19(b"SMITHS..........", 3, b"SMYTHS..........", 3), 1);"#;
 }
+
+#[cfg(test)]
+#[test]
+fn places_in_the_register() {
+    let none = Flags::default();
+    assert_eq!(Flags::from_register(0), none);
+    assert_eq!(Flags::from_register(0x001), Flags { carry: true, ..none });
+    assert_eq!(Flags::from_register(0x004), Flags { parity: true, ..none });
+    assert_eq!(Flags::from_register(0x010), Flags { auxiliary: true, ..none });
+    assert_eq!(Flags::from_register(0x040), Flags { zero: true, ..none });
+    assert_eq!(Flags::from_register(0x080), Flags { sign: true, ..none });
+    assert_eq!(Flags::from_register(0x800), Flags { overflow: true, ..none });
+}

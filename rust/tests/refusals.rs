@@ -6,7 +6,9 @@ mod common;
 mod raw;
 
 use common::search_refusal;
-use hirtxonda::{Cursor, Refusal, LONGEST_NEEDLE, LONGEST_TEXT, MOST_COMPARES};
+use hirtxonda::{
+    pcmpestri, pcmpestrm, pcmpistri, pcmpistrm, Cursor, Refusal, LONGEST_NEEDLE, LONGEST_TEXT, MOST_COMPARES,
+};
 use raw::*;
 
 /// What stands behind each pointer before a call, whole or in bytes.
@@ -38,6 +40,27 @@ fn listed_numbers() {
     }
 }
 
+/// The header's numbers are those of this crate.
+#[test]
+fn header() {
+    let header = include_str!("../../include/hirtxonda.h");
+    let defined = |name: &str| {
+        let line = header.lines().find(|line| line.starts_with(&format!("#define HX_{name} "))).expect(name);
+        line.split_whitespace().nth(2).unwrap().trim_end_matches('u').parse::<usize>().expect(name)
+    };
+    assert_eq!(header.lines().filter(|line| line.starts_with("#define HX_") && line.contains("_REFUSED ")).count(), 12);
+    for number in (0..100).filter_map(Refusal::from_number) {
+        let name = format!("{number:?}_REFUSED").to_uppercase();
+        assert_eq!(defined(&name), number.number() as usize);
+    }
+    assert_eq!(defined("LONGEST_TEXT"), LONGEST_TEXT);
+    assert_eq!(defined("LONGEST_NEEDLE"), LONGEST_NEEDLE);
+    assert_eq!(defined("LONGEST_INPUT"), hirtxonda::LONGEST_INPUT);
+    assert_eq!(defined("LONGEST_REPORT"), hirtxonda::LONGEST_REPORT);
+    assert_eq!(defined("ABSENT"), ABSENT as usize);
+    assert_eq!(defined("MATCH"), 0);
+}
+
 #[test]
 fn controls() {
     let (a, b) = ([0x41; 16], [0x41; 16]);
@@ -54,7 +77,13 @@ fn controls() {
             // Accepted, the bits of the register that are no flags of a compare are 0.
             assert!(number > 0 || flags & !0x8c1 == 0);
         }
-        assert!(control > 127 || estri.1 .1 <= 16 && istri.1 .1 <= 16);
+        if control < 128 {
+            // The whole of each answer is written.
+            assert_eq!(estri.1 .1, pcmpestri(&a, 3, &b, -3, control).unwrap().index);
+            assert_eq!(istri.1 .1, pcmpistri(&a, &b, control).unwrap().index);
+            assert_eq!(estrm.1 .0, pcmpestrm(&a, 3, &b, -3, control).unwrap().mask);
+            assert_eq!(istrm.1 .0, pcmpistrm(&a, &b, control).unwrap().mask);
+        }
     }
 }
 

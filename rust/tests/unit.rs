@@ -5,7 +5,7 @@ mod common;
 
 use common::{say, silicon_available, text, Random, ALPHABETS};
 use hirtxonda::{pcmpestri, pcmpestri_0c, pcmpestri_0d, pcmpestri_18, pcmpestri_19, pcmpestrm, pcmpistri, pcmpistrm};
-use hirtxonda::{silicon, Refusal};
+use hirtxonda::{silicon, Flags, Refusal};
 
 /// Blocks of each of the four tests.
 const BLOCKS: usize = 1 << 20;
@@ -13,12 +13,17 @@ const BLOCKS: usize = 1 << 20;
 /// Controls that each block is tried at. They go round, so every control gets the same number of blocks.
 const CONTROLS: usize = 32;
 
-#[derive(Clone, Copy, Debug)]
 struct Block {
     operand1: [u8; 16],
     length1: i32,
     operand2: [u8; 16],
     length2: i32,
+}
+
+impl std::fmt::Display for Block {
+    fn fmt(&self, f: &mut std::fmt::Formatter<'_>) -> std::fmt::Result {
+        write!(f, "{:02x?} ({}), {:02x?} ({})", self.operand1, self.length1, self.operand2, self.length2)
+    }
 }
 
 fn operand(random: &mut Random, alphabet: usize) -> [u8; 16] {
@@ -84,7 +89,7 @@ fn agree<A: PartialEq + std::fmt::Debug>(test: &str, proved: impl Fn(&Block, u8)
         let block = block(&mut random);
         for step in 0..CONTROLS {
             let control = ((number * CONTROLS + step) % 128) as u8;
-            assert_eq!(proved(&block, control), real(&block, control), "control {control:02x}h, {block:02x?}");
+            assert_eq!(proved(&block, control), real(&block, control), "control {control:02x}h, {block}");
         }
     }
     say(&format!("{test}: {BLOCKS} blocks, each at {CONTROLS} of 128 controls"));
@@ -148,7 +153,7 @@ fn one_control() {
         let cut = |length: usize| length.min(100) as i32;
         let real = silicon::pcmpestri(&block.operand1, cut(length1), &block.operand2, cut(length2), control);
         let proved = call(&block.operand1, length1, &block.operand2, length2);
-        assert_eq!(Ok(proved), real.map(|r| r.index), "{control:02x}h, {block:02x?}, lengths {length1} {length2}");
+        assert_eq!(Ok(proved), real.map(|r| r.index), "control {control:02x}h, {block}, lengths {length1} {length2}");
     }
 }
 
@@ -161,4 +166,38 @@ fn controls_above_127_are_refused() {
         assert_eq!(pcmpistri(a, b, control), Err(Refusal::Control));
         assert_eq!(pcmpistrm(a, b, control), Err(Refusal::Control));
     }
+}
+
+/// Document 01's specimens U1 to U9: the bits of the result, and the least index.
+#[test]
+fn specimens() {
+    fn bits(a: &[u8], length1: i32, b: &[u8], length2: i32, control: u8) -> (u16, u32, Flags) {
+        let operand = |text: &[u8]| {
+            let mut operand = [0; 16];
+            operand[..text.len()].copy_from_slice(text);
+            operand
+        };
+        let (a, b) = (operand(a), operand(b));
+        let answer = pcmpestrm(&a, length1, &b, length2, control & 0x3f).unwrap();
+        let index = pcmpestri(&a, length1, &b, length2, control).unwrap();
+        assert_eq!(answer.flags, index.flags);
+        (u16::from_le_bytes([answer.mask[0], answer.mask[1]]), index.index, answer.flags)
+    }
+    let text = b"ZZABZABCZZZZZZAB";
+    let flags = Flags { carry: true, sign: true, ..Flags::default() };
+    assert_eq!(bits(b"ABC", 3, text, 16, 0x0c), (0x4020, 5, flags));
+    assert_eq!(bits(b"ABC", 3, text, 16, 0x4c), (0x4020, 14, flags));
+    let flags = Flags { zero: true, ..flags };
+    assert_eq!(bits(b"ABC", 3, text, 15, 0x0c), (0x0020, 5, flags));
+    assert_eq!(bits(b"", 0, b"", 0, 0x0c), (0xffff, 0, Flags { overflow: true, ..flags }));
+    assert_eq!(bits(b"", 0, b"", 0, 0x00), (0, 16, Flags { carry: false, ..flags }));
+    assert_eq!(bits(b"SMITH", 5, b"SMYTH", 5, 0x08), (0xfffb, 0, Flags { overflow: true, ..flags }));
+    assert_eq!(bits(b"SMITH", 5, b"SMYTH", 5, 0x18), (0x0004, 2, flags));
+    assert_eq!(bits(b"SMITH", 5, b"SMYTH", 5, 0x38), (0xffe4, 2, flags));
+    assert_eq!(bits(b"SMITH", 5, b"SMYTH", 5, 0x78), (0xffe4, 15, flags));
+    assert_eq!(bits(b"AZ", 2, b"a-B", 3, 0x04), (0x0004, 2, flags));
+    assert_eq!(bits(b"AZ", 1, b"a-B", 3, 0x04).0, 0);
+    assert_eq!(bits(b"\xff\x01", 2, b"\x00\x80", 2, 0x06), (0x0001, 0, Flags { overflow: true, ..flags }));
+    assert_eq!(bits(b"\xff\x01", 2, b"\x00\x80", 2, 0x04).0, 0);
+    assert_eq!(bits(b"", 0, b"", 0, 0x19), (0, 8, Flags { carry: false, ..flags }));
 }

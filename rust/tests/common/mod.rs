@@ -8,7 +8,7 @@ use hirtxonda::{Cursor, Element, Refusal, LONGEST_NEEDLE, LONGEST_TEXT, MOST_COM
 
 /// A line that the test runner does not hold back.
 pub fn say(line: &str) {
-    let _ = writeln!(std::io::stderr(), "{line}");
+    let _ = std::io::stderr().write_all(format!("{line}\n").as_bytes());
 }
 
 /// Whether the processor has the instructions. Where it lacks them, says what is left out.
