@@ -122,17 +122,21 @@ fn run<Output>(
     Ok((output, Flags::from_register(flags as u32)))
 }
 
-fn index_answer((index, flags): (u32, Flags)) -> IndexAnswer {
-    IndexAnswer { index, flags }
+impl IndexAnswer {
+    fn from((index, flags): (u32, Flags)) -> IndexAnswer {
+        IndexAnswer { index, flags }
+    }
 }
 
-fn mask_answer((mask, flags): (__m128i, Flags)) -> MaskAnswer {
-    // SAFETY: both are sixteen bytes, and every byte is allowed in each.
-    MaskAnswer { mask: unsafe { std::mem::transmute::<__m128i, [u8; 16]>(mask) }, flags }
+impl MaskAnswer {
+    fn from((mask, flags): (__m128i, Flags)) -> MaskAnswer {
+        // SAFETY: both are sixteen bytes, and every byte is allowed in each.
+        MaskAnswer { mask: unsafe { std::mem::transmute::<__m128i, [u8; 16]>(mask) }, flags }
+    }
 }
 
 macro_rules! calls {
-    ($($name:ident($($length1:ident, $length2:ident)?) $table:ident $answer:ident $answer_type:ident $arguments:literal;)*) => { $(
+    ($($name:ident($($length1:ident, $length2:ident)?) $table:ident $answer:ident $arguments:literal;)*) => { $(
         #[doc = concat!("[`", stringify!($name), "`](crate::", stringify!($name), ") by the instruction.")]
         ///
         /// ```
@@ -140,21 +144,28 @@ macro_rules! calls {
         ///
         /// let (a, b) = (b"ABC\0\0\0\0\0\0\0\0\0\0\0\0\0", b"ZZABZABCZZZZZZAB");
         /// if silicon::available() {
-        #[doc = concat!("    assert_eq!(silicon::", stringify!($name), $arguments, ", hirtxonda::", stringify!($name), $arguments, ");")]
+        #[doc = concat!("    let proved = hirtxonda::", stringify!($name), $arguments, ";")]
+        #[doc = concat!("    assert_eq!(silicon::", stringify!($name), $arguments, ", proved);")]
         /// }
         /// ```
-        pub fn $name(operand1: &[u8; 16], $($length1: i32,)? operand2: &[u8; 16], $($length2: i32,)? control: u8) -> Result<$answer_type, Refusal> {
+        pub fn $name(
+            operand1: &[u8; 16],
+            $($length1: i32,)?
+            operand2: &[u8; 16],
+            $($length2: i32,)?
+            control: u8,
+        ) -> Result<$answer, Refusal> {
             let (length1, length2) = (0 $(+ $length1)?, 0 $(+ $length2)?);
-            run(&$table, (operand1, length1), (operand2, length2), control).map($answer)
+            run(&$table, (operand1, length1), (operand2, length2), control).map($answer::from)
         }
     )* };
 }
 
 calls! {
-    pcmpestri(length1, length2) ESTRI index_answer IndexAnswer "(a, 3, b, 16, 0x0c)";
-    pcmpestrm(length1, length2) ESTRM mask_answer MaskAnswer "(a, 3, b, 16, 0x0c)";
-    pcmpistri() ISTRI index_answer IndexAnswer "(a, b, 0x0c)";
-    pcmpistrm() ISTRM mask_answer MaskAnswer "(a, b, 0x0c)";
+    pcmpestri(length1, length2) ESTRI IndexAnswer "(a, 3, b, 16, 0x0c)";
+    pcmpestrm(length1, length2) ESTRM MaskAnswer "(a, 3, b, 16, 0x0c)";
+    pcmpistri() ISTRI IndexAnswer "(a, b, 0x0c)";
+    pcmpistrm() ISTRM MaskAnswer "(a, b, 0x0c)";
 }
 
 // ---- the walk of document 01
