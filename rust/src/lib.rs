@@ -1,0 +1,48 @@
+//! A proved software model of the processor's SSE4.2 string compares, and a search over it that finds every position of a needle in a text.
+//!
+//! The calls are thin wrappers over the library's static archive, whose every function is proved against its definition. A machine without the
+//! instructions gets the same index, mask and flags, bit for bit; [`silicon`] has the same calls on the instructions themselves.
+//!
+//! Bad input is refused by a listed number, a [`Refusal`], and nothing is changed. Texts are slices of bytes or of 16-bit words ([`Element`]).
+//!
+//! # Example
+//!
+//! Where does `AB` stand in `ABZAB`? Then where in one block of sixteen bytes does `ABC` stand, and where do the letters of a line end?
+//!
+//! ```
+//! use hirtxonda::{matches, pcmpestri, range_span, Refusal, Signedness};
+//!
+//! # fn main() -> Result<(), Refusal> {
+//! let mut found = matches(b"ABZAB", b"AB")?;
+//! assert_eq!(found.by_ref().collect::<Vec<_>>(), [0, 3]);
+//! assert_eq!(found.compares(), 3);
+//!
+//! // 0Ch: unsigned bytes, equal ordered, positive, least index.
+//! let answer = pcmpestri(b"ABC\0\0\0\0\0\0\0\0\0\0\0\0\0", 3, b"ZZABZABCZZZZZZAB", 16, 0x0c)?;
+//! assert_eq!(answer.index, 5);
+//! assert!(answer.flags.carry && answer.flags.sign && !answer.flags.zero);
+//!
+//! assert_eq!(range_span(b"SMITH 1871", b"AZaz", Signedness::Unsigned)?, b"SMITH");
+//! # Ok(())
+//! # }
+//! ```
+
+#![deny(missing_docs, clippy::undocumented_unsafe_blocks)]
+
+mod refusal;
+mod unit;
+mod search;
+mod text;
+mod report;
+mod raw;
+#[cfg(target_arch = "x86_64")]
+pub mod silicon;
+
+pub use refusal::Refusal;
+pub use report::{report, report_into, right_justified, LONGEST_INPUT, LONGEST_REPORT, WIDEST_COLUMN};
+pub use search::{matches, Cursor, Matches, Next, LONGEST_NEEDLE, MOST_COMPARES};
+pub use text::{compare, lesser, range_span, span, Element, Signedness, LONGEST_TEXT};
+pub use unit::{
+    pcmpestri, pcmpestri_0c, pcmpestri_0d, pcmpestri_18, pcmpestri_19, pcmpestrm, pcmpistri, pcmpistrm, Flags,
+    IndexAnswer, MaskAnswer,
+};

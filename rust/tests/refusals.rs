@@ -1,0 +1,255 @@
+//! The raw C calls: each number at its edge, the lowest where several apply, and nothing written by a refused call.
+
+mod common;
+#[allow(dead_code)]
+#[path = "../src/raw.rs"]
+mod raw;
+
+use common::search_refusal;
+use hirtxonda::{
+    pcmpestri, pcmpestrm, pcmpistri, pcmpistrm, Cursor, Refusal, LONGEST_NEEDLE, LONGEST_TEXT, MOST_COMPARES,
+};
+use raw::*;
+
+/// What stands behind each pointer before a call, whole or in bytes.
+const SENTINEL: u64 = 0xa5a5_a5a5_a5a5_a5a5;
+const BYTE: u8 = 0xa5;
+
+/// Runs a call with a place to write, and gives its number and what stands there after it.
+fn with_sentinel<T>(sentinel: T, call: impl FnOnce(*mut T) -> u32) -> (u32, T) {
+    let mut place = sentinel;
+    let number = call(&mut place);
+    (number, place)
+}
+
+/// A call's number, and what it wrote; refused, it must have written nothing.
+fn written<T: Copy + PartialEq + std::fmt::Debug>(sentinel: T, call: impl FnOnce(*mut T) -> u32) -> (u32, T) {
+    let (number, place) = with_sentinel(sentinel, call);
+    assert!(number == 0 || place == sentinel, "refused by {number}, and wrote {place:?}");
+    (number, place)
+}
+
+#[test]
+fn listed_numbers() {
+    let listed: Vec<u32> = (0..1000).filter(|&number| Refusal::from_number(number).is_some()).collect();
+    assert_eq!(listed, [1, 2, 3, 4, 5, 6, 7, 8, 21, 22, 23, 24]);
+    for number in listed {
+        let refusal = Refusal::from_number(number).unwrap();
+        assert_eq!(refusal.number(), number);
+        assert!(refusal.to_string().starts_with(&format!("refused by number {number}: ")));
+    }
+}
+
+/// The header's numbers are those of this crate.
+#[test]
+fn header() {
+    let header = include_str!("../../include/hirtxonda.h");
+    let defined = |name: &str| {
+        let line = header.lines().find(|line| line.starts_with(&format!("#define HX_{name} "))).expect(name);
+        line.split_whitespace().nth(2).unwrap().trim_end_matches('u').parse::<usize>().expect(name)
+    };
+    assert_eq!(header.lines().filter(|line| line.starts_with("#define HX_") && line.contains("_REFUSED ")).count(), 12);
+    for number in (0..100).filter_map(Refusal::from_number) {
+        let name = format!("{number:?}_REFUSED").to_uppercase();
+        assert_eq!(defined(&name), number.number() as usize);
+    }
+    assert_eq!(defined("LONGEST_TEXT"), LONGEST_TEXT);
+    assert_eq!(defined("LONGEST_NEEDLE"), LONGEST_NEEDLE);
+    assert_eq!(defined("LONGEST_INPUT"), hirtxonda::LONGEST_INPUT);
+    assert_eq!(defined("LONGEST_REPORT"), hirtxonda::LONGEST_REPORT);
+    assert_eq!(defined("ABSENT"), ABSENT as usize);
+    assert_eq!(defined("MATCH"), 0);
+}
+
+#[test]
+fn controls() {
+    let (a, b) = ([0x41; 16], [0x41; 16]);
+    type Answer = ([u8; 16], u32, u32);
+    let before: Answer = ([BYTE; 16], SENTINEL as u32, SENTINEL as u32);
+    for control in 0..=255u8 {
+        // SAFETY: every pointer is to what the call asks for, here and in all tests below.
+        let estri = written(before, |p| unsafe { hx_pcmpestri(&a, 3, &b, -3, control, &mut (*p).1, &mut (*p).2) });
+        let istri = written(before, |p| unsafe { hx_pcmpistri(&a, &b, control, &mut (*p).1, &mut (*p).2) });
+        let estrm = written(before, |p| unsafe { hx_pcmpestrm(&a, 3, &b, -3, control, &mut (*p).0, &mut (*p).2) });
+        let istrm = written(before, |p| unsafe { hx_pcmpistrm(&a, &b, control, &mut (*p).0, &mut (*p).2) });
+        for (number, (_, _, flags)) in [estri, istri, estrm, istrm] {
+            assert_eq!(number, u32::from(control > 127), "control {control}");
+            // Accepted, the bits of the register that are no flags of a compare are 0.
+            assert!(number > 0 || flags & !0x8c1 == 0);
+        }
+        if control < 128 {
+            // The whole of each answer is written.
+            assert_eq!(estri.1 .1, pcmpestri(&a, 3, &b, -3, control).unwrap().index);
+            assert_eq!(istri.1 .1, pcmpistri(&a, &b, control).unwrap().index);
+            assert_eq!(estrm.1 .0, pcmpestrm(&a, 3, &b, -3, control).unwrap().mask);
+            assert_eq!(istrm.1 .0, pcmpistrm(&a, &b, control).unwrap().mask);
+        }
+    }
+}
+
+#[test]
+fn fresh_cursor() {
+    let mut cursor = raw::Cursor { position: SENTINEL, compares: SENTINEL, exhausted: SENTINEL };
+    // SAFETY: see `controls`.
+    unsafe { hx_cursor_fresh(&mut cursor) };
+    assert_eq!(cursor, raw::Cursor { position: 0, compares: 0, exhausted: 0 });
+}
+
+/// Every set of conditions out of 2, 3, 21, 22, 23, each one past its limit or at it.
+fn next<E: Calls + Clone + Default>() {
+    let text = vec![E::default(); LONGEST_TEXT + 1];
+    let needle = vec![E::default(); LONGEST_NEEDLE + 1];
+    for conditions in 0..32usize {
+        let past = |condition: u32| conditions >> condition & 1;
+        let (n, m) = (LONGEST_TEXT + past(0), LONGEST_NEEDLE + past(1));
+        let (position, compares) = (n as u64 + 1 + past(3) as u64, MOST_COMPARES + past(4) as u64);
+        for exhausted in if past(2) == 1 { &[1, 2, 256, 1 << 32, u64::MAX][..] } else { &[0] } {
+            let cursor = raw::Cursor { position, compares, exhausted: *exhausted };
+            // SAFETY: see `controls`.
+            let (number, (after, place)) = with_sentinel((cursor, SENTINEL), |p| unsafe {
+                E::NEXT(&mut (*p).0, text.as_ptr(), n, needle.as_ptr(), m, &mut (*p).1)
+            });
+            let expected = search_refusal(n, m, Cursor { position, compares, exhausted: past(2) == 1 });
+            assert_eq!(number, expected.map_or(ABSENT, Refusal::number), "conditions {conditions:05b}");
+            let absent = raw::Cursor { exhausted: 1, ..cursor };
+            assert_eq!(after, if expected.is_none() { absent } else { cursor });
+            assert_eq!(place, SENTINEL);
+        }
+    }
+}
+
+#[test]
+fn next_in_bytes() {
+    next::<u8>();
+}
+
+#[test]
+fn next_in_words() {
+    next::<u16>();
+}
+
+/// Every set of conditions out of 2, 4, 5.
+fn lists<E: Calls + Clone + Default>() {
+    let text = vec![E::default(); LONGEST_TEXT + 1];
+    let b = 16 / std::mem::size_of::<E>();
+    let list = vec![E::default(); b + 2];
+    for n in [0, 1, LONGEST_TEXT, LONGEST_TEXT + 1] {
+        for m in 0..=b + 2 {
+            let (too_long, too_many) = (n > LONGEST_TEXT, m > b);
+            let of_set = [(too_long, 2), (too_many, 4), (true, 0)].into_iter().find(|c| c.0).unwrap().1;
+            let of_bounds = if of_set == 0 && m % 2 == 1 { 5 } else { of_set };
+            let sentinel = SENTINEL as usize;
+            // SAFETY: see `controls`.
+            let span = written(sentinel, |p| unsafe { E::SPAN(text.as_ptr(), n, list.as_ptr(), m, p) });
+            assert_eq!(span.0, of_set);
+            for is_signed in [0, 1, 2, u32::MAX] {
+                let span =
+                    written(sentinel, |p| unsafe { E::RANGE_SPAN(text.as_ptr(), n, list.as_ptr(), m, is_signed, p) });
+                assert_eq!(span.0, of_bounds);
+            }
+        }
+    }
+}
+
+#[test]
+fn lists_in_bytes() {
+    lists::<u8>();
+}
+
+#[test]
+fn lists_in_words() {
+    lists::<u16>();
+}
+
+fn orders<E: Calls + Clone + Default>() {
+    let text = vec![E::default(); LONGEST_TEXT + 1];
+    for n in [0, LONGEST_TEXT, LONGEST_TEXT + 1] {
+        for m in [0, LONGEST_TEXT, LONGEST_TEXT + 1] {
+            let expected = if n.max(m) > LONGEST_TEXT { 2 } else { 0 };
+            // SAFETY: see `controls`.
+            let order = written(SENTINEL as i32, |p| unsafe { E::COMPARE(text.as_ptr(), n, text.as_ptr(), m, 0, p) });
+            let which = written(SENTINEL as u32, |p| unsafe { E::LESSER(text.as_ptr(), n, text.as_ptr(), m, 1, p) });
+            assert_eq!((order.0, which.0), (expected, expected));
+            assert!(expected > 0 || order.1 == n.cmp(&m) as i32 && which.1 == u32::from(n > m));
+        }
+    }
+}
+
+#[test]
+fn orders_in_bytes() {
+    orders::<u8>();
+}
+
+#[test]
+fn orders_in_words() {
+    orders::<u16>();
+}
+
+/// Any number but 0 is signed.
+#[test]
+fn signed_numbers() {
+    let (first, second) = ([0x80u8], [0x7fu8]);
+    for (is_signed, expected) in [(0, 1), (1, -1), (2, -1), (256, -1), (1 << 31, -1), (u32::MAX, -1)] {
+        // SAFETY: see `controls`.
+        let order = written(0, |p| unsafe { hx_compare_in_bytes(first.as_ptr(), 1, second.as_ptr(), 1, is_signed, p) });
+        assert_eq!(order, (0, expected));
+        let which = written(9, |p| unsafe { hx_lesser_in_bytes(first.as_ptr(), 1, second.as_ptr(), 1, is_signed, p) });
+        assert_eq!(which, (0, u32::from(expected == 1)));
+        // -128 to 127, or nothing.
+        let bounds = [0x80u8, 0x7f];
+        let span =
+            written(9, |p| unsafe { hx_range_span_in_bytes(first.as_ptr(), 1, bounds.as_ptr(), 2, is_signed, p) });
+        assert_eq!(span, (0, usize::from(is_signed != 0)));
+    }
+}
+
+/// A length that is refused is refused before anything is read: here it is far longer than what stands behind the pointer.
+#[test]
+fn refused_lengths_are_not_read() {
+    let (byte, word) = ([1u8], [1u16]);
+    let cursor = raw::Cursor { position: 0, compares: 0, exhausted: 0 };
+    for huge in [LONGEST_TEXT + 1, 1 << 32, 1 << 62, usize::MAX / 2, usize::MAX] {
+        // SAFETY: the header allows it, since nothing is read.
+        unsafe {
+            let next = |p: *mut (raw::Cursor, u64)| {
+                hx_next_in_bytes(&mut (*p).0, byte.as_ptr(), huge, byte.as_ptr(), 1, &mut (*p).1)
+            };
+            assert_eq!(written((cursor, SENTINEL), next).0, 2);
+            let next = |p: *mut (raw::Cursor, u64)| {
+                hx_next_in_words(&mut (*p).0, word.as_ptr(), 1, word.as_ptr(), huge, &mut (*p).1)
+            };
+            assert_eq!(written((cursor, SENTINEL), next).0, 3);
+            assert_eq!(written(7, |p| hx_span_in_bytes(byte.as_ptr(), huge, byte.as_ptr(), 1, p)).0, 2);
+            assert_eq!(written(7, |p| hx_span_in_words(word.as_ptr(), 1, word.as_ptr(), huge, p)).0, 4);
+            assert_eq!(written(7, |p| hx_range_span_in_bytes(byte.as_ptr(), 1, byte.as_ptr(), huge, 1, p)).0, 4);
+            assert_eq!(written(7, |p| hx_compare_in_words(word.as_ptr(), 1, word.as_ptr(), huge, 1, p)).0, 2);
+            assert_eq!(written(7, |p| hx_lesser_in_bytes(byte.as_ptr(), huge, byte.as_ptr(), 1, 0, p)).0, 2);
+            let mut page = [BYTE; 16];
+            assert_eq!(hx_report(byte.as_ptr(), huge, page.as_mut_ptr(), 16), 9);
+            assert_eq!(&page, b"       7\n\xa5\xa5\xa5\xa5\xa5\xa5\xa5");
+        }
+    }
+}
+
+/// Every set of conditions out of 8 and 24. What is past the buffer's length stays too.
+#[test]
+fn columns() {
+    for (number, digits) in [(0, 1), (9, 1), (10, 2), (9_999_999, 7), (10_000_000, 8), (u64::MAX, 20)] {
+        for width in (0..24).chain([usize::MAX]) {
+            for length in 0..24 {
+                let before = [BYTE; 32];
+                // SAFETY: see `controls`.
+                let (refusal, after) =
+                    written(before, |p| unsafe { hx_right_justified(number, width, p.cast::<u8>().add(4), length) });
+                let expected = match () {
+                    _ if width == 0 || width > 20 || digits > width => 8,
+                    _ if length < width => 24,
+                    _ => 0,
+                };
+                assert_eq!(refusal, expected, "{number} in {width} of {length}");
+                let end = if expected == 0 { 4 + width } else { 4 };
+                assert!(after[..4] == before[..4] && after[end..] == before[end..]);
+            }
+        }
+    }
+}

@@ -1,0 +1,230 @@
+//! The proved search against the same walk on the processor's instructions, call by call, and against brute force.
+
+mod common;
+
+use common::{positions, search_refusal, silicon_available, stands, text, walk_compares, Letter, Random, ALPHABETS};
+use hirtxonda::{matches, Cursor, Next, Refusal, LONGEST_NEEDLE, LONGEST_TEXT, MOST_COMPARES};
+
+/// What a call must answer, by comparing elements one by one.
+fn expected<E: Letter>(cursor: Cursor, text: &[E], needle: &[E]) -> Result<Next, Refusal> {
+    if let Some(refusal) = search_refusal(text.len(), needle.len(), cursor) {
+        return Err(refusal);
+    }
+    let from = cursor.position as usize;
+    let compares = cursor.compares + walk_compares(text, needle, from);
+    Ok(match (from..=text.len()).find(|&position| stands(text, needle, position)) {
+        Some(position) => {
+            Next::Match { position, cursor: Cursor { position: position as u64 + 1, compares, exhausted: false } }
+        }
+        None => Next::Absent { cursor: Cursor { compares, exhausted: true, ..cursor } },
+    })
+}
+
+/// The same call by the instructions, where the processor has them.
+fn on_silicon<E: Letter>(real: bool, cursor: Cursor, text: &[E], needle: &[E]) -> Option<Result<Next, Refusal>> {
+    #[cfg(target_arch = "x86_64")]
+    return real.then(|| hirtxonda::silicon::next(cursor, text, needle));
+    #[cfg(not(target_arch = "x86_64"))]
+    return None;
+}
+
+/// One call, three ways.
+fn check_call<E: Letter>(real: bool, cursor: Cursor, text: &[E], needle: &[E]) -> Result<Next, Refusal> {
+    let next = cursor.next(text, needle);
+    let what = || format!("{cursor:?}, n = {}, needle {needle:02x?}", text.len());
+    if let Some(by_instructions) = on_silicon(real, cursor, text, needle) {
+        assert_eq!(next, by_instructions, "against the instructions: {}", what());
+    }
+    assert_eq!(next, expected(cursor, text, needle), "against brute force: {}", what());
+    next
+}
+
+/// A whole list of calls from a fresh cursor, and the iterators over the same text and needle.
+fn check_list<E: Letter>(real: bool, text: &[E], needle: &[E]) {
+    let mut cursor = Cursor::fresh();
+    let mut found = Vec::new();
+    while let Next::Match { position, cursor: following } = check_call(real, cursor, text, needle).expect("accepted") {
+        found.push(position);
+        cursor = following;
+    }
+    let Ok(Next::Absent { cursor }) = cursor.next(text, needle) else { panic!("a list ends with absent") };
+    assert_eq!(check_call(real, cursor, text, needle), Err(Refusal::Exhausted));
+    assert_eq!(found, positions(text, needle));
+    check_iterator(matches(text, needle), &found, cursor.compares);
+    #[cfg(target_arch = "x86_64")]
+    if real {
+        check_iterator(hirtxonda::silicon::matches(text, needle), &found, cursor.compares);
+    }
+}
+
+fn check_iterator<E: Letter>(matches: Result<hirtxonda::Matches<'_, E>, Refusal>, found: &[usize], compares: u64) {
+    let mut matches = matches.expect("accepted");
+    assert!(matches.by_ref().eq(found.iter().copied()));
+    assert_eq!(matches.next(), None);
+    assert_eq!(matches.compares(), compares);
+}
+
+/// A needle of m elements: drawn alone, or a part of the text, perhaps with one bit of one element changed.
+fn needle_for<E: Letter>(random: &mut Random, text: &[E], alphabet: usize, m: usize) -> Vec<E> {
+    let mut needle = common::text(random, alphabet, m);
+    if m > 0 && m <= text.len() && !random.one_in(4) {
+        let at = random.below(text.len() - m + 1);
+        needle.copy_from_slice(&text[at..at + m]);
+        if random.one_in(3) {
+            flip(random, &mut needle);
+        }
+    }
+    needle
+}
+
+/// Another value for one element, alike in all bits but one.
+fn flip<E: Letter>(random: &mut Random, part: &mut [E]) {
+    let element = random.pick(&(0..part.len()).collect::<Vec<_>>());
+    let bits = 1u64 << random.below(8 * std::mem::size_of::<E>());
+    part[element] = E::cut(part[element].unsigned() as u64 ^ bits);
+}
+
+/// Copies of the needle in the text, some with a flaw in one element: whole in its first piece, so that later pieces are compared.
+fn plant<E: Letter>(random: &mut Random, text: &mut [E], needle: &[E]) {
+    if needle.is_empty() || needle.len() > text.len() {
+        return;
+    }
+    for _ in 0..random.below(4) {
+        let at = random.below(text.len() - needle.len() + 1);
+        let place = &mut text[at..at + needle.len()];
+        place.copy_from_slice(needle);
+        if random.one_in(2) {
+            let from = if random.one_in(2) { 0 } else { (place.len() - 1).min(E::BLOCK) };
+            flip(random, &mut place[from..]);
+        }
+    }
+}
+
+fn lists<E: Letter>(test: &str, count: usize, longest_text: usize, longest_needle: usize) {
+    let mut random = Random::for_test(test);
+    let real = silicon_available(test);
+    for _ in 0..count {
+        let alphabet = random.below(ALPHABETS);
+        let n = random.size(E::BLOCK, longest_text);
+        let m = random.size(E::BLOCK, longest_needle.min(n + 2));
+        let mut text: Vec<E> = text(&mut random, alphabet, n);
+        let needle = needle_for(&mut random, &text, alphabet, m);
+        plant(&mut random, &mut text, &needle);
+        check_list(real, &text, &needle);
+    }
+}
+
+#[test]
+fn short_texts_in_bytes() {
+    lists::<u8>("short_texts_in_bytes", 400_000, 100, 64);
+}
+
+#[test]
+fn short_texts_in_words() {
+    lists::<u16>("short_texts_in_words", 400_000, 100, 64);
+}
+
+#[test]
+fn longer_texts_in_bytes() {
+    lists::<u8>("longer_texts_in_bytes", 4_000, 4000, LONGEST_NEEDLE);
+}
+
+#[test]
+fn longer_texts_in_words() {
+    lists::<u16>("longer_texts_in_words", 4_000, 4000, LONGEST_NEEDLE);
+}
+
+/// Cursors that no list of calls gives, at every edge and at random; and another text or needle for a cursor on its way.
+fn cursors<E: Letter>(test: &str) {
+    let mut random = Random::for_test(test);
+    let real = silicon_available(test);
+    let mut refused = std::collections::HashMap::new();
+    for _ in 0..400_000 {
+        let alphabet = random.below(ALPHABETS);
+        let n = random.size(E::BLOCK, 80);
+        let m = if random.one_in(16) { LONGEST_NEEDLE + random.below(2) } else { random.size(E::BLOCK, 2 * E::BLOCK) };
+        let text: Vec<E> = text(&mut random, alphabet, n);
+        let needle = needle_for(&mut random, &text, alphabet, m);
+        let position = match random.below(8) {
+            0 => u64::MAX - random.below(3) as u64,
+            1 => random.draw(),
+            2 => n as u64 + random.below(4) as u64,
+            _ => random.below(n + 2) as u64,
+        };
+        let compares = match random.below(4) {
+            0 => (MOST_COMPARES + 2).wrapping_sub(random.below(4) as u64),
+            1 => random.draw(),
+            2 => u64::MAX - random.below(2) as u64,
+            _ => random.draw() % (MOST_COMPARES + 1),
+        };
+        let answer = check_call(real, Cursor { position, compares, exhausted: random.one_in(8) }, &text, &needle);
+        *refused.entry(answer.err()).or_insert(0) += 1;
+    }
+    for refusal in [Refusal::Needle, Refusal::Exhausted, Refusal::Position, Refusal::Compares] {
+        assert!(refused.contains_key(&Some(refusal)), "{refusal:?} never came up");
+    }
+}
+
+#[test]
+fn cursors_in_bytes() {
+    cursors::<u8>("cursors_in_bytes");
+}
+
+#[test]
+fn cursors_in_words() {
+    cursors::<u16>("cursors_in_words");
+}
+
+/// Texts of the longest size and of one more, with the needle at their very end.
+fn at_the_limits<E: Letter>(test: &str) {
+    let mut random = Random::for_test(test);
+    let real = silicon_available(test);
+    for m in [0, 1, 2, E::BLOCK, E::BLOCK + 1, 64, LONGEST_NEEDLE] {
+        let alphabet = random.pick(&[0, 2]);
+        let mut text: Vec<E> = text(&mut random, alphabet, LONGEST_TEXT + 1);
+        let needle = needle_for(&mut random, &text, alphabet, m);
+        let longest = &mut text[..LONGEST_TEXT];
+        longest[LONGEST_TEXT - m..].copy_from_slice(&needle);
+        let mut found: Vec<usize> = Vec::new();
+        let mut cursor = Cursor::fresh();
+        while let Next::Match { position, cursor: following } = cursor.next(longest, &needle).expect("accepted") {
+            if let Some(by_instructions) = on_silicon(real, cursor, longest, &needle) {
+                assert_eq!(by_instructions, Ok(Next::Match { position, cursor: following }));
+            }
+            found.push(position);
+            cursor = following;
+        }
+        if let Some(by_instructions) = on_silicon(real, cursor, longest, &needle) {
+            assert_eq!(by_instructions, cursor.next(longest, &needle));
+        }
+        assert_eq!(found, positions(longest, &needle));
+        assert_eq!(found.last(), Some(&(LONGEST_TEXT - m)));
+        assert_eq!(check_call(real, cursor, &text, &needle), Err(Refusal::Text));
+        assert_eq!(matches(&text, &needle).err(), Some(Refusal::Text));
+    }
+}
+
+#[test]
+fn at_the_limits_in_bytes() {
+    at_the_limits::<u8>("at_the_limits_in_bytes");
+}
+
+#[test]
+fn at_the_limits_in_words() {
+    at_the_limits::<u16>("at_the_limits_in_words");
+}
+
+/// Document 01's specimens S1 to S5: the first match and the compares of the first call.
+#[test]
+fn specimens() {
+    let first = |text: &[u8], needle: &[u8]| match Cursor::fresh().next(text, needle) {
+        Ok(Next::Match { position, cursor }) => (Some(position), cursor.compares),
+        Ok(Next::Absent { cursor }) => (None, cursor.compares),
+        Err(refusal) => panic!("{refusal}"),
+    };
+    assert_eq!(first(b"", b""), (Some(0), 0));
+    assert_eq!(first(b"", b"A"), (None, 0));
+    assert_eq!(first(b"ZZZZZZZZZZZZZZABCDZZ", b"ABCD"), (Some(14), 2));
+    assert_eq!(first(b"ZZZZZZZZZZZZZZABXDZZ", b"ABCD"), (None, 2));
+    assert_eq!(first(b"AAAAAAAAAAAAAAAAAB", b"AAAAAAAAAAAAAAAAB"), (Some(1), 4));
+}
