@@ -1,14 +1,16 @@
 /*
  * Random and hostile calls through every function of include/hirtxonda.h.
  *
- * Each buffer, operand, cursor and out-number of a call lies in an arena of its own between two guard pages: right before the one or right behind the other, so that a
- * read or write of one byte outside traps. What is expected of a call (refusal, what is written, what stays) is written here from the header's rules alone.
+ * Each buffer, operand, cursor and out-number of a call lies in an arena of its own between two guard pages: right
+ * before the one or right behind the other, so that a read or write of one byte outside traps. What is expected of a
+ * call (refusal, what is written, what stays) is written here from the header's rules alone.
  *
  *   faults [--calls N] [--seed N]     the run: a line of figures, exit status 0 where nothing was wrong
  *   faults --seed N --case I          one case again, as a failed run names it
  *   faults --guards                   shows that the guards trap: a child process for each arena and end
  *
- * Built with -DMEMCHECK, for a run under valgrind, what lies in an arena outside the buffer is also marked as no memory; under the address sanitizer it is poisoned.
+ * Built with -DMEMCHECK, for a run under valgrind, what lies in an arena outside the buffer is also marked as no
+ * memory; under the address sanitizer it is poisoned.
  */
 #define _GNU_SOURCE
 #include <inttypes.h>
@@ -73,7 +75,10 @@ static uint64_t any_number(void)
 
 static uint64_t seed = 20260101, case_number, calls;
 static const char *function = "none";
-static struct { const char *label; uint64_t value; } arguments[8];
+static struct {
+    const char *label;
+    uint64_t value;
+} arguments[8];
 static size_t argument_count;
 
 static uint64_t arg(const char *label, uint64_t value)
@@ -181,7 +186,8 @@ static size_t used_count;
 
 static uint8_t *mirror_of(const place *p) { return p->in->mirror + (p->at - p->in->low); }
 
-/* Places so many bytes: before the back guard, behind the front guard, or one time in eight anywhere between, at any address that the alignment allows. */
+/* Places so many bytes: before the back guard, behind the front guard, or one time in eight anywhere between, at any
+ * address that the alignment allows. */
 static void put(place *p, int slot, size_t bytes, size_t align, bool is_out)
 {
     arena *a = bytes <= small_arena[slot].size / 2 ? &small_arena[slot] : &large_arena[slot];
@@ -257,8 +263,8 @@ static void settle(void)
             continue;
         for (size_t j = low; j < high; j++)
             if (p->in->low[j] != p->in->mirror[j])
-                fail("byte %td of %s %zu, of %zu bytes, has changed from %02x to %02x", (ptrdiff_t)j - (ptrdiff_t)front, p->is_out ? "output" : "input", i, p->bytes,
-                     p->in->mirror[j], p->in->low[j]);
+                fail("byte %td of %s %zu, of %zu bytes, has changed from %02x to %02x", (ptrdiff_t)j - (ptrdiff_t)front,
+                     p->is_out ? "output" : "input", i, p->bytes, p->in->mirror[j], p->in->low[j]);
     }
     if ((calls & 4095) == 0)
         check_arenas();
@@ -280,8 +286,9 @@ static void expect(uint32_t result, uint32_t expected)
 /* ---- draws of contents and of numbers ---- */
 
 static const uint8_t alphabets[6][8] = {
-    {'A', 'B', 'A', 'B', 'A', 'B', 'A', 'B'}, {0x00, 0x01, 0x7f, 0x80, 0x81, 0xfe, 0xff, 0x7e}, {'A', 'A', 'A', 'A', 'A', 'A', 'A', 'A'},
-    {'A', 'A', 'A', 'A', 'A', 'A', 'A', 'B'}, {0x00, 'A', 'B', 'C', 0x00, 'A', 'B', 'C'},       {0xff, 0x00, 0xff, 0xff, 0xff, 0x00, 0x00, 0xff}};
+    {'A', 'B', 'A', 'B', 'A', 'B', 'A', 'B'},   {0x00, 0x01, 0x7f, 0x80, 0x81, 0xfe, 0xff, 0x7e},
+    {'A', 'A', 'A', 'A', 'A', 'A', 'A', 'A'},   {'A', 'A', 'A', 'A', 'A', 'A', 'A', 'B'},
+    {0x00, 'A', 'B', 'C', 0x00, 'A', 'B', 'C'}, {0xff, 0x00, 0xff, 0xff, 0xff, 0x00, 0x00, 0xff}};
 static uint64_t alphabet; /* of this case; the number behind the last is any byte */
 
 static void scribble(uint8_t *at, size_t bytes)
@@ -314,8 +321,9 @@ static void *out(place *p, int slot, size_t bytes, size_t align)
 /* A length that is refused by this limit. It need not be true. */
 static size_t above(size_t limit)
 {
-    static const uint64_t far[] = {UINT64_C(1) << 31, UINT64_C(1) << 32, (UINT64_C(1) << 32) + 1, UINT64_C(1) << 48, (UINT64_C(1) << 62) + 3,
-                                   INT64_MAX, UINT64_C(1) << 63, (UINT64_C(1) << 63) + 5, UINT64_MAX - 1, UINT64_MAX};
+    static const uint64_t far[] = {
+        UINT64_C(1) << 31, UINT64_C(1) << 32, (UINT64_C(1) << 32) + 1, UINT64_C(1) << 48, (UINT64_C(1) << 62) + 3,
+        INT64_MAX,         UINT64_C(1) << 63, (UINT64_C(1) << 63) + 5, UINT64_MAX - 1,    UINT64_MAX};
     switch (below(4)) {
     case 0: return limit + 1;
     case 1: return limit + 2 + below(1000);
@@ -346,7 +354,8 @@ static size_t small_length(void)
     }
 }
 
-/* A text with a length that is refused: a small buffer, or none, with the guard page right there, and a length that is not its own. */
+/* A text with a length that is refused: a small buffer, or none, with the guard page right there, and a length that is
+ * not its own. */
 static void false_text(text *t, int slot, unsigned width, size_t limit)
 {
     t->width = width;
@@ -382,7 +391,7 @@ static void change_one_bit(const place *p, size_t bytes)
     *at ^= (uint8_t)(1u << below(8));
 }
 
-/* Now and then the second text begins as the first does, up to a changed byte; or it is the first, at the same address. */
+/* Now and then the second text begins as the first does, up to a changed bit; or it is the first, at its address. */
 static void relate(text *second, const text *first)
 {
     if (!is_true(first) || !is_true(second))
@@ -435,8 +444,11 @@ static uint32_t draw_truth(void)
 
 static int32_t draw_length(const char *label)
 {
-    static const int32_t edges[] = {INT32_MIN, INT32_MIN + 1, INT32_MAX, -1, -7, -8, -9, -15, -16, -17, 16, 17, 256, -256, 65536, -65536};
-    int32_t length = one_in(3) ? edges[below(COUNT(edges))] : one_in(8) ? (int32_t)(uint32_t)draw() : (int32_t)below(19);
+    static const int32_t edges[] = {INT32_MIN, INT32_MIN + 1, INT32_MAX, -1, -7,  -8,   -9,    -15,
+                                    -16,       -17,           16,        17, 256, -256, 65536, -65536};
+    int32_t length = one_in(3)   ? edges[below(COUNT(edges))]
+                     : one_in(8) ? (int32_t)(uint32_t)draw()
+                                 : (int32_t)below(19);
     arg(label, (uint64_t)(int64_t)length);
     return length;
 }
@@ -479,7 +491,8 @@ static void check_flags(uint32_t flags, uint32_t b, uint32_t effective1, uint32_
     if ((flags & ~(HX_CF | HX_ZF | HX_SF | HX_OF)) != 0)
         fail("flags %" PRIx32 ": a bit that is no flag, or AF or PF", flags);
     if (((flags & HX_SF) != 0) != (effective1 < b) || ((flags & HX_ZF) != 0) != (effective2 < b))
-        fail("flags %" PRIx32 ": SF or ZF is not what lengths %" PRIu32 " and %" PRIu32 " make it", flags, effective1, effective2);
+        fail("flags %" PRIx32 ": SF or ZF is not what lengths %" PRIu32 " and %" PRIu32 " make it", flags, effective1,
+             effective2);
     if ((flags & HX_OF) != 0 && (flags & HX_CF) == 0)
         fail("flags %" PRIx32 ": OF without CF", flags);
 }
@@ -510,7 +523,10 @@ static void try_unit(bool is_explicit, bool is_mask)
 {
     place o1, o2, what, f;
     uint32_t result;
-    begin(is_explicit ? is_mask ? "hx_pcmpestrm" : "hx_pcmpestri" : is_mask ? "hx_pcmpistrm" : "hx_pcmpistri");
+    if (is_explicit)
+        begin(is_mask ? "hx_pcmpestrm" : "hx_pcmpestri");
+    else
+        begin(is_mask ? "hx_pcmpistrm" : "hx_pcmpistri");
     const uint8_t *operand1 = draw_operand(&o1, A, NULL), *operand2 = draw_operand(&o2, B, &o1);
     int32_t length1 = is_explicit ? draw_length("length1") : 0, length2 = is_explicit ? draw_length("length2") : 0;
     uint8_t control = draw_control();
@@ -532,7 +548,8 @@ static void try_unit(bool is_explicit, bool is_mask)
         CALL(hx_pcmpistri(operand1, operand2, control, index, flags));
     expect(result, control > 127 ? HX_CONTROL_REFUSED : 0);
     if (result == 0) {
-        check_flags(*flags, b, is_explicit ? effective(length1, b) : up_to_zero(operand1, words), is_explicit ? effective(length2, b) : up_to_zero(operand2, words));
+        check_flags(*flags, b, is_explicit ? effective(length1, b) : up_to_zero(operand1, words),
+                    is_explicit ? effective(length2, b) : up_to_zero(operand2, words));
         if (is_mask)
             check_mask(mask, *flags, b, control);
         else
@@ -549,7 +566,8 @@ static void try_pcmpistri(void) { try_unit(false, false); }
 static void try_pcmpistrm(void) { try_unit(false, true); }
 
 /* The index at one control: it must be what hx_pcmpestri tells at that control. */
-static void try_loop_call(const char *name, uint32_t (*call)(const uint8_t *, size_t, const uint8_t *, size_t), uint8_t control)
+static void try_loop_call(const char *name, uint32_t (*call)(const uint8_t *, size_t, const uint8_t *, size_t),
+                          uint8_t control)
 {
     place o1, o2, i, f;
     uint32_t result, *index, *flags, b = (control & 1) != 0 ? 8 : 16;
@@ -590,7 +608,8 @@ static uint64_t stands_from(const text *t, const text *needle, uint64_t from)
 {
     size_t n = t->length, m = needle->length, bytes = m * t->width;
     for (uint64_t p = from; p + m <= n; p++)
-        if (m == 0 || (t->p.at[p * t->width] == needle->p.at[0] && memcmp(t->p.at + p * t->width, needle->p.at, bytes) == 0))
+        if (m == 0 ||
+            (t->p.at[p * t->width] == needle->p.at[0] && memcmp(t->p.at + p * t->width, needle->p.at, bytes) == 0))
             return p;
     return UINT64_MAX;
 }
@@ -638,7 +657,8 @@ static uint32_t next_call(const text *t, const text *needle, place *c, place *at
     if (t->width == 1)
         CALL(hx_next_in_bytes(cursor, t->p.at, t->length, needle->p.at, needle->length, position));
     else
-        CALL(hx_next_in_words(cursor, (const uint16_t *)t->p.at, t->length, (const uint16_t *)needle->p.at, needle->length, position));
+        CALL(hx_next_in_words(cursor, (const uint16_t *)t->p.at, t->length, (const uint16_t *)needle->p.at,
+                              needle->length, position));
     if (expected == 0) {
         found = stands_from(t, needle, old.position);
         expected = found == UINT64_MAX ? HX_ABSENT : HX_MATCH;
@@ -649,11 +669,14 @@ static uint32_t next_call(const text *t, const text *needle, place *c, place *at
         return result;
     }
     /* a step of the walk goes on by at least one position and makes at most one compare for each piece of the needle */
-    most = old.position + needle->length > t->length ? 0 : (t->length + 1 - old.position) * ((needle->length * t->width + 15) / 16);
+    most = old.position + needle->length > t->length
+               ? 0
+               : (t->length + 1 - old.position) * ((needle->length * t->width + 15) / 16);
     if (cursor->compares < old.compares || cursor->compares - old.compares > most)
         fail("compares %" PRIu64 " where %" PRIu64 " more are the most", cursor->compares, most);
     if (result == HX_MATCH && (*position != found || cursor->position != found + 1 || cursor->exhausted != 0))
-        fail("position %" PRIu64 ", cursor %" PRIu64 " %" PRIu64 "; the match is at %" PRIu64, *position, cursor->position, cursor->exhausted, found);
+        fail("position %" PRIu64 ", cursor %" PRIu64 " %" PRIu64 "; the match is at %" PRIu64, *position,
+             cursor->position, cursor->exhausted, found);
     if (result == HX_ABSENT && (cursor->position != old.position || cursor->exhausted != 1))
         fail("absent, and cursor %" PRIu64 " %" PRIu64, cursor->position, cursor->exhausted);
     written(c, sizeof *cursor);
@@ -738,7 +761,8 @@ static void try_next_words(void) { one_in(8) ? try_list(2) : try_next(2); }
 static bool belongs(const text *list, bool ranges, bool is_signed, int32_t e)
 {
     for (size_t i = 0; i < list->length; i += ranges ? 2 : 1)
-        if (ranges ? element(list, i, is_signed) <= e && e <= element(list, i + 1, is_signed) : element(list, i, is_signed) == e)
+        if (ranges ? element(list, i, is_signed) <= e && e <= element(list, i + 1, is_signed)
+                   : element(list, i, is_signed) == e)
             return true;
     return false;
 }
@@ -749,7 +773,10 @@ static void try_span(unsigned width, bool ranges)
     place s;
     uint32_t result, expected = 0, is_signed = 0;
     size_t most = 16 / width, *span, n = 0;
-    begin(ranges ? width == 1 ? "hx_range_span_in_bytes" : "hx_range_span_in_words" : width == 1 ? "hx_span_in_bytes" : "hx_span_in_words");
+    if (ranges)
+        begin(width == 1 ? "hx_range_span_in_bytes" : "hx_range_span_in_words");
+    else
+        begin(width == 1 ? "hx_span_in_bytes" : "hx_span_in_words");
     draw_text(&t, A, width);
     if (one_in(8))
         false_text(&list, B, width, most);
@@ -761,9 +788,11 @@ static void try_span(unsigned width, bool ranges)
     arg("text_length", t.length), arg("list_length", list.length);
     const uint16_t *words = (const uint16_t *)t.p.at, *word_list = (const uint16_t *)list.p.at;
     if (width == 1)
-        CALL(ranges ? hx_range_span_in_bytes(t.p.at, t.length, list.p.at, list.length, is_signed, span) : hx_span_in_bytes(t.p.at, t.length, list.p.at, list.length, span));
+        CALL(ranges ? hx_range_span_in_bytes(t.p.at, t.length, list.p.at, list.length, is_signed, span)
+                    : hx_span_in_bytes(t.p.at, t.length, list.p.at, list.length, span));
     else
-        CALL(ranges ? hx_range_span_in_words(words, t.length, word_list, list.length, is_signed, span) : hx_span_in_words(words, t.length, word_list, list.length, span));
+        CALL(ranges ? hx_range_span_in_words(words, t.length, word_list, list.length, is_signed, span)
+                    : hx_span_in_words(words, t.length, word_list, list.length, span));
     if (t.length > HX_LONGEST_TEXT)
         expected = HX_TEXT_REFUSED;
     else if (list.length > most)
@@ -804,7 +833,10 @@ static void try_order(unsigned width, bool lesser)
     place o;
     uint32_t result, *which;
     int32_t *order;
-    begin(lesser ? width == 1 ? "hx_lesser_in_bytes" : "hx_lesser_in_words" : width == 1 ? "hx_compare_in_bytes" : "hx_compare_in_words");
+    if (lesser)
+        begin(width == 1 ? "hx_lesser_in_bytes" : "hx_lesser_in_words");
+    else
+        begin(width == 1 ? "hx_compare_in_bytes" : "hx_compare_in_words");
     draw_text(&first, A, width);
     if (is_true(&first) && one_in(2))
         true_text(&second, B, width, first.length);
@@ -878,7 +910,8 @@ static void try_column(void)
     settle();
 }
 
-/* The input of a report: mostly a small needle, a line feed and a text; also no line feed, needles around 1,024, and lengths at and above 65,536. */
+/* The input of a report: mostly a small needle, a line feed and a text; also no line feed, needles around 1,024, and
+ * lengths at and above 65,536. */
 static void draw_input(text *input)
 {
     uint64_t kind = below(4096);
@@ -903,7 +936,8 @@ static void draw_input(text *input)
     chosen(&input->p);
 }
 
-/* What stands in the report but the compares: the refusal, or the positions, with the line of totals behind them. Returns how many bytes the report has. */
+/* What stands in the report but the compares: the refusal, or the positions, with the line of totals behind them.
+ * Returns how many bytes the report has. */
 static size_t check_report(const text *input, const uint8_t *page)
 {
     char line[32];
@@ -922,9 +956,13 @@ static size_t check_report(const text *input, const uint8_t *page)
             fail("the report of an input that is refused by %" PRIu64 " has other bytes", refused);
         return 9;
     }
-    text needle = {{input->p.in, input->p.at, (size_t)(feed - input->p.at), false, false}, (size_t)(feed - input->p.at), 1};
-    text t = {{input->p.in, input->p.at + needle.length + 1, input->length - needle.length - 1, false, false}, input->length - needle.length - 1, 1};
-    for (uint64_t p = stands_from(&t, &needle, 0); p != UINT64_MAX; p = stands_from(&t, &needle, p + 1), count++, bytes += 9)
+    text needle = {
+        {input->p.in, input->p.at, (size_t)(feed - input->p.at), false, false}, (size_t)(feed - input->p.at), 1};
+    text t = {{input->p.in, input->p.at + needle.length + 1, input->length - needle.length - 1, false, false},
+              input->length - needle.length - 1,
+              1};
+    for (uint64_t p = stands_from(&t, &needle, 0); p != UINT64_MAX;
+         p = stands_from(&t, &needle, p + 1), count++, bytes += 9)
         if (page != NULL && (snprintf(line, sizeof line, "%8" PRIu64 "\n", p), memcmp(page + bytes, line, 9) != 0))
             fail("line %" PRIu64 " of the report is not position %" PRIu64, count, p);
     if (page != NULL) {
@@ -973,9 +1011,13 @@ static void try_report(void)
 
 /* ---- the run ---- */
 
-static void (*const tries[])(void) = {try_pcmpestri,    try_pcmpestrm,    try_pcmpistri,     try_pcmpistrm,     try_0c,           try_0d,           try_18,
-                                      try_19,           try_fresh,        try_next_bytes,    try_next_words,    try_span_bytes,   try_span_words,   try_ranges_bytes,
-                                      try_ranges_words, try_compare_bytes, try_compare_words, try_lesser_bytes, try_lesser_words, try_column,       try_report};
+static void (*const tries[])(void) = {
+    try_pcmpestri, try_pcmpestrm, try_pcmpistri, try_pcmpistrm, try_0c, try_0d, try_18, try_19, /* the unit */
+    try_fresh, try_next_bytes, try_next_words,                                                  /* the search */
+    try_span_bytes, try_span_words, try_ranges_bytes, try_ranges_words,                         /* leading runs */
+    try_compare_bytes, try_compare_words, try_lesser_bytes, try_lesser_words,                   /* orders */
+    try_column, try_report,
+};
 
 static void try_case(uint64_t number)
 {
@@ -992,7 +1034,8 @@ static void tell_address(const uint8_t *at)
         const place *p = used[i];
         const uint8_t *low = p->in->low - page_bytes, *high = p->in->low + p->in->size + page_bytes;
         if (at >= low && at < high)
-            printf("tests/faults: the address is byte %td of %s %zu, of %zu bytes\n", at - p->at, p->is_out ? "output" : "input", i, p->bytes);
+            printf("tests/faults: the address is byte %td of %s %zu, of %zu bytes\n", at - p->at,
+                   p->is_out ? "output" : "input", i, p->bytes);
     }
 }
 
@@ -1001,7 +1044,11 @@ static void trapped(int number, siginfo_t *info, void *context)
     (void)context;
     signal(number, SIG_DFL); /* a fault while it is told ends the run */
     tell_call();
-    printf("tests/faults: %s\n", number == SIGALRM ? "the call does not return" : number == SIGSEGV || number == SIGBUS ? "a trap: a read or write outside the buffers" : "a trap");
+    if (number == SIGALRM)
+        printf("tests/faults: the call does not return\n");
+    else
+        printf("tests/faults: a trap%s\n",
+               number == SIGFPE || number == SIGILL ? "" : ": a read or write outside the buffers");
     if (number != SIGALRM)
         tell_address(info->si_addr);
     fflush(stdout);
@@ -1028,9 +1075,10 @@ static double seconds(void)
 
 static void tell_figures(double took)
 {
-    printf("tests/faults: %" PRIu64 " calls in %.1f s, %.0f a second, none wrong (seed %" PRIu64 ", digest %016" PRIx64 ", " FORM "); accepted %.2f %%, absent %.2f %%, page too short %.2f %%, refused by",
-           calls, took, (double)calls / took, seed, digest, 100.0 * (double)given[0] / (double)calls, 100.0 * (double)given[HX_ABSENT] / (double)calls,
-           100.0 * (double)short_pages / (double)calls);
+    printf("tests/faults: %" PRIu64 " calls in %.1f s, %.0f a second, none wrong (seed %" PRIu64 ", digest %016" PRIx64
+           ", " FORM "); accepted %.2f %%, absent %.2f %%, page too short %.2f %%, refused by",
+           calls, took, (double)calls / took, seed, digest, 100.0 * (double)given[0] / (double)calls,
+           100.0 * (double)given[HX_ABSENT] / (double)calls, 100.0 * (double)short_pages / (double)calls);
     for (uint32_t i = 1; i < HX_ABSENT; i++)
         if (given[i] != 0)
             printf(" %" PRIu32 ": %.2f %%", i, 100.0 * (double)given[i] / (double)calls);

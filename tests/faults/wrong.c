@@ -1,6 +1,7 @@
 /*
- * Wrong versions of the library's functions, to see that faults.c finds them. Linked with -Wl,--wrap=NAME for each function here: a call of NAME gets __wrap_NAME, and
- * the library's own is __real_NAME. The environment variable WRONG has the number of the mistake; with none, every call does what the library does.
+ * Wrong versions of the library's functions, to see that faults.c finds them. Linked with -Wl,--wrap=NAME for each
+ * function here: a call of NAME gets __wrap_NAME, and the library's own is __real_NAME. The environment variable WRONG
+ * has the number of the mistake; with none, every call does what the library does.
  */
 #include <stdlib.h>
 
@@ -16,12 +17,14 @@ static int wrong(int number)
     return chosen == number;
 }
 
-#define WRAPPED(type, name, parameters) \
-    type __real_##name parameters;      \
-    type __wrap_##name parameters;      \
+#define WRAPPED(type, name, parameters)                                                                                \
+    type __real_##name parameters;                                                                                     \
+    type __wrap_##name parameters;                                                                                     \
     type __wrap_##name parameters
 
-WRAPPED(uint32_t, hx_pcmpestri, (const uint8_t *operand1, int32_t length1, const uint8_t *operand2, int32_t length2, uint8_t control, uint32_t *index, uint32_t *flags))
+WRAPPED(uint32_t, hx_pcmpestri,
+        (const uint8_t *operand1, int32_t length1, const uint8_t *operand2, int32_t length2, uint8_t control,
+         uint32_t *index, uint32_t *flags))
 {
     uint32_t r = __real_hx_pcmpestri(operand1, length1, operand2, length2, control, index, flags);
     if (wrong(1)) /* reads behind operand 1 */
@@ -33,7 +36,8 @@ WRAPPED(uint32_t, hx_pcmpestri, (const uint8_t *operand1, int32_t length1, const
     return r;
 }
 
-WRAPPED(uint32_t, hx_pcmpistri, (const uint8_t *operand1, const uint8_t *operand2, uint8_t control, uint32_t *index, uint32_t *flags))
+WRAPPED(uint32_t, hx_pcmpistri,
+        (const uint8_t *operand1, const uint8_t *operand2, uint8_t control, uint32_t *index, uint32_t *flags))
 {
     uint32_t r = __real_hx_pcmpistri(operand1, operand2, control, index, flags);
     if (wrong(4) && r != 0) /* a refused call writes */
@@ -43,7 +47,9 @@ WRAPPED(uint32_t, hx_pcmpistri, (const uint8_t *operand1, const uint8_t *operand
     return r;
 }
 
-WRAPPED(uint32_t, hx_pcmpestrm, (const uint8_t *operand1, int32_t length1, const uint8_t *operand2, int32_t length2, uint8_t control, uint8_t *mask, uint32_t *flags))
+WRAPPED(uint32_t, hx_pcmpestrm,
+        (const uint8_t *operand1, int32_t length1, const uint8_t *operand2, int32_t length2, uint8_t control,
+         uint8_t *mask, uint32_t *flags))
 {
     uint32_t r = __real_hx_pcmpestrm(operand1, length1, operand2, length2, control, mask, flags);
     if (wrong(6)) /* writes behind the mask */
@@ -53,7 +59,8 @@ WRAPPED(uint32_t, hx_pcmpestrm, (const uint8_t *operand1, int32_t length1, const
     return r;
 }
 
-WRAPPED(uint32_t, hx_pcmpistrm, (const uint8_t *operand1, const uint8_t *operand2, uint8_t control, uint8_t *mask, uint32_t *flags))
+WRAPPED(uint32_t, hx_pcmpistrm,
+        (const uint8_t *operand1, const uint8_t *operand2, uint8_t control, uint8_t *mask, uint32_t *flags))
 {
     if (wrong(8)) /* reads before operand 2 */
         sink = operand2[-1];
@@ -67,7 +74,7 @@ WRAPPED(uint32_t, hx_pcmpestri_0d, (const uint8_t *operand1, size_t length1, con
     return __real_hx_pcmpestri_0d(operand1, length1, operand2, length2);
 }
 
-WRAPPED(void, hx_cursor_fresh, (hx_cursor *cursor))
+WRAPPED(void, hx_cursor_fresh, (hx_cursor * cursor))
 {
     uint64_t old = cursor->exhausted;
     __real_hx_cursor_fresh(cursor);
@@ -75,7 +82,9 @@ WRAPPED(void, hx_cursor_fresh, (hx_cursor *cursor))
         cursor->exhausted = old;
 }
 
-WRAPPED(uint32_t, hx_next_in_bytes, (hx_cursor *cursor, const uint8_t *text, size_t text_length, const uint8_t *needle, size_t needle_length, uint64_t *position))
+WRAPPED(uint32_t, hx_next_in_bytes,
+        (hx_cursor * cursor, const uint8_t *text, size_t text_length, const uint8_t *needle, size_t needle_length,
+         uint64_t *position))
 {
     if (wrong(11)) /* reads a text of any length */
         sink = text_length != 0 ? text[0] : 0;
@@ -92,7 +101,9 @@ WRAPPED(uint32_t, hx_next_in_bytes, (hx_cursor *cursor, const uint8_t *text, siz
     return r;
 }
 
-WRAPPED(uint32_t, hx_next_in_words, (hx_cursor *cursor, const uint16_t *text, size_t text_length, const uint16_t *needle, size_t needle_length, uint64_t *position))
+WRAPPED(uint32_t, hx_next_in_words,
+        (hx_cursor * cursor, const uint16_t *text, size_t text_length, const uint16_t *needle, size_t needle_length,
+         uint64_t *position))
 {
     uint32_t r = __real_hx_next_in_words(cursor, text, text_length, needle, needle_length, position);
     if (wrong(16) && r == HX_EXHAUSTED_REFUSED) /* a refused call writes the cursor: what is not 0 is now 1 */
@@ -104,7 +115,8 @@ WRAPPED(uint32_t, hx_next_in_words, (hx_cursor *cursor, const uint16_t *text, si
     return r;
 }
 
-WRAPPED(uint32_t, hx_span_in_bytes, (const uint8_t *text, size_t text_length, const uint8_t *set, size_t set_length, size_t *span))
+WRAPPED(uint32_t, hx_span_in_bytes,
+        (const uint8_t *text, size_t text_length, const uint8_t *set, size_t set_length, size_t *span))
 {
     uint32_t r = __real_hx_span_in_bytes(text, text_length, set, set_length, span);
     if (wrong(19) && r == 0) /* reads a block of sixteen from the set */
@@ -115,7 +127,9 @@ WRAPPED(uint32_t, hx_span_in_bytes, (const uint8_t *text, size_t text_length, co
     return r;
 }
 
-WRAPPED(uint32_t, hx_range_span_in_words, (const uint16_t *text, size_t text_length, const uint16_t *bounds, size_t bounds_length, uint32_t is_signed, size_t *span))
+WRAPPED(uint32_t, hx_range_span_in_words,
+        (const uint16_t *text, size_t text_length, const uint16_t *bounds, size_t bounds_length, uint32_t is_signed,
+         size_t *span))
 {
     uint32_t r = __real_hx_range_span_in_words(text, text_length, bounds, bounds_length, is_signed, span);
     if (wrong(21) && r == HX_LIST_REFUSED && bounds_length % 2 != 0) /* the higher number first */
@@ -125,7 +139,9 @@ WRAPPED(uint32_t, hx_range_span_in_words, (const uint16_t *text, size_t text_len
     return r;
 }
 
-WRAPPED(uint32_t, hx_compare_in_bytes, (const uint8_t *first, size_t first_length, const uint8_t *second, size_t second_length, uint32_t is_signed, int32_t *order))
+WRAPPED(uint32_t, hx_compare_in_bytes,
+        (const uint8_t *first, size_t first_length, const uint8_t *second, size_t second_length, uint32_t is_signed,
+         int32_t *order))
 {
     uint32_t r = __real_hx_compare_in_bytes(first, first_length, second, second_length, is_signed, order);
     if (wrong(23) && r == 0 && first_length != 0) /* changes an input */
@@ -135,7 +151,9 @@ WRAPPED(uint32_t, hx_compare_in_bytes, (const uint8_t *first, size_t first_lengt
     return r;
 }
 
-WRAPPED(uint32_t, hx_lesser_in_words, (const uint16_t *first, size_t first_length, const uint16_t *second, size_t second_length, uint32_t is_signed, uint32_t *which))
+WRAPPED(uint32_t, hx_lesser_in_words,
+        (const uint16_t *first, size_t first_length, const uint16_t *second, size_t second_length, uint32_t is_signed,
+         uint32_t *which))
 {
     uint32_t r = __real_hx_lesser_in_words(first, first_length, second, second_length, is_signed, which);
     if (wrong(25) && r == 0) /* 2 for the second */
