@@ -1,0 +1,191 @@
+/*
+ * Wrong versions of the library's functions, to see that faults.c finds them. Linked with -Wl,--wrap=NAME for each
+ * function here: a call of NAME gets __wrap_NAME, and the library's own is __real_NAME. The environment variable WRONG
+ * has the number of the mistake; with none, every call does what the library does.
+ */
+#include <stdlib.h>
+
+#include "hirtxonda.h"
+
+static volatile uint8_t sink;
+
+static int wrong(int number)
+{
+    static int chosen = -1;
+    if (chosen < 0)
+        chosen = getenv("WRONG") != NULL ? atoi(getenv("WRONG")) : 0;
+    return chosen == number;
+}
+
+#define WRAPPED(type, name, parameters)                                                                                \
+    type __real_##name parameters;                                                                                     \
+    type __wrap_##name parameters;                                                                                     \
+    type __wrap_##name parameters
+
+WRAPPED(uint32_t, hx_pcmpestri,
+        (const uint8_t *operand1, int32_t length1, const uint8_t *operand2, int32_t length2, uint8_t control,
+         uint32_t *index, uint32_t *flags))
+{
+    uint32_t r = __real_hx_pcmpestri(operand1, length1, operand2, length2, control, index, flags);
+    if (wrong(1)) /* reads behind operand 1 */
+        sink = operand1[16];
+    if (wrong(2) && r == 0) /* bit 1 of EFLAGS, which is no flag */
+        *flags |= 2;
+    if (wrong(3) && r == 0 && *index == 8) /* 16 for none, also in words */
+        *index = 16;
+    return r;
+}
+
+WRAPPED(uint32_t, hx_pcmpistri,
+        (const uint8_t *operand1, const uint8_t *operand2, uint8_t control, uint32_t *index, uint32_t *flags))
+{
+    uint32_t r = __real_hx_pcmpistri(operand1, operand2, control, index, flags);
+    if (wrong(4) && r != 0) /* a refused call writes */
+        *index = 0;
+    if (wrong(5)) /* control 128 is taken for 0 */
+        return __real_hx_pcmpistri(operand1, operand2, control & 127, index, flags);
+    return r;
+}
+
+WRAPPED(uint32_t, hx_pcmpestrm,
+        (const uint8_t *operand1, int32_t length1, const uint8_t *operand2, int32_t length2, uint8_t control,
+         uint8_t *mask, uint32_t *flags))
+{
+    uint32_t r = __real_hx_pcmpestrm(operand1, length1, operand2, length2, control, mask, flags);
+    if (wrong(6)) /* writes behind the mask */
+        mask[16] = (uint8_t)~mask[16];
+    if (wrong(7) && r == 0) /* writes far from it */
+        mask[1000] = (uint8_t)~mask[1000];
+    return r;
+}
+
+WRAPPED(uint32_t, hx_pcmpistrm,
+        (const uint8_t *operand1, const uint8_t *operand2, uint8_t control, uint8_t *mask, uint32_t *flags))
+{
+    if (wrong(8)) /* reads before operand 2 */
+        sink = operand2[-1];
+    return __real_hx_pcmpistrm(operand1, operand2, control, mask, flags);
+}
+
+WRAPPED(uint32_t, hx_pcmpestri_0d, (const uint8_t *operand1, size_t length1, const uint8_t *operand2, size_t length2))
+{
+    if (wrong(9)) /* a length above 32 bits is cut */
+        return __real_hx_pcmpestri_0d(operand1, (uint32_t)length1, operand2, (uint32_t)length2);
+    return __real_hx_pcmpestri_0d(operand1, length1, operand2, length2);
+}
+
+WRAPPED(void, hx_cursor_fresh, (hx_cursor * cursor))
+{
+    uint64_t old = cursor->exhausted;
+    __real_hx_cursor_fresh(cursor);
+    if (wrong(10)) /* one number stays */
+        cursor->exhausted = old;
+}
+
+WRAPPED(uint32_t, hx_next_in_bytes,
+        (hx_cursor * cursor, const uint8_t *text, size_t text_length, const uint8_t *needle, size_t needle_length,
+         uint64_t *position))
+{
+    if (wrong(11)) /* reads a text of any length */
+        sink = text_length != 0 ? text[0] : 0;
+    uint64_t from = cursor->position;
+    uint32_t r = __real_hx_next_in_bytes(cursor, text, text_length, needle, needle_length, position);
+    if (wrong(12) && r == HX_MATCH) /* reads behind the text */
+        sink = text[text_length];
+    if (wrong(13) && r == HX_ABSENT) /* tells a position with absent */
+        *position = from;
+    if (wrong(14) && r == HX_EXHAUSTED_REFUSED && from > text_length + 1) /* the higher number first */
+        return HX_POSITION_REFUSED;
+    if (wrong(15) && r == HX_COMPARES_REFUSED) /* a number that is none */
+        return 25;
+    return r;
+}
+
+WRAPPED(uint32_t, hx_next_in_words,
+        (hx_cursor * cursor, const uint16_t *text, size_t text_length, const uint16_t *needle, size_t needle_length,
+         uint64_t *position))
+{
+    uint32_t r = __real_hx_next_in_words(cursor, text, text_length, needle, needle_length, position);
+    if (wrong(16) && r == HX_EXHAUSTED_REFUSED) /* a refused call writes the cursor: what is not 0 is now 1 */
+        cursor->exhausted = 1;
+    if (wrong(17) && r == HX_MATCH && needle_length != 0) /* reads before the needle */
+        sink = (uint8_t)needle[-1];
+    if (wrong(18) && r == HX_MATCH) /* skips a position */
+        cursor->position++;
+    return r;
+}
+
+WRAPPED(uint32_t, hx_span_in_bytes,
+        (const uint8_t *text, size_t text_length, const uint8_t *set, size_t set_length, size_t *span))
+{
+    uint32_t r = __real_hx_span_in_bytes(text, text_length, set, set_length, span);
+    if (wrong(19) && r == 0) /* reads a block of sixteen from the set */
+        for (int i = 0; i < 16; i++)
+            sink = set[i];
+    if (wrong(20) && r == 0 && *span == text_length) /* one more than there are */
+        ++*span;
+    return r;
+}
+
+WRAPPED(uint32_t, hx_range_span_in_words,
+        (const uint16_t *text, size_t text_length, const uint16_t *bounds, size_t bounds_length, uint32_t is_signed,
+         size_t *span))
+{
+    uint32_t r = __real_hx_range_span_in_words(text, text_length, bounds, bounds_length, is_signed, span);
+    if (wrong(21) && r == HX_LIST_REFUSED && bounds_length % 2 != 0) /* the higher number first */
+        return HX_ODD_REFUSED;
+    if (wrong(22)) /* only 1 is true */
+        return __real_hx_range_span_in_words(text, text_length, bounds, bounds_length, is_signed == 1, span);
+    return r;
+}
+
+WRAPPED(uint32_t, hx_compare_in_bytes,
+        (const uint8_t *first, size_t first_length, const uint8_t *second, size_t second_length, uint32_t is_signed,
+         int32_t *order))
+{
+    uint32_t r = __real_hx_compare_in_bytes(first, first_length, second, second_length, is_signed, order);
+    if (wrong(23) && r == 0 && first_length != 0) /* changes an input */
+        ((uint8_t *)(uintptr_t)first)[first_length - 1] ^= 1;
+    if (wrong(24) && r == 0 && *order == 1) /* an order that is none */
+        *order = 2;
+    return r;
+}
+
+WRAPPED(uint32_t, hx_lesser_in_words,
+        (const uint16_t *first, size_t first_length, const uint16_t *second, size_t second_length, uint32_t is_signed,
+         uint32_t *which))
+{
+    uint32_t r = __real_hx_lesser_in_words(first, first_length, second, second_length, is_signed, which);
+    if (wrong(25) && r == 0) /* 2 for the second */
+        *which *= 2;
+    if (wrong(26) && r == HX_TEXT_REFUSED) /* a refused call writes */
+        *which = 0;
+    return r;
+}
+
+WRAPPED(uint32_t, hx_right_justified, (uint64_t number, size_t width, uint8_t *buffer, size_t buffer_length))
+{
+    uint32_t r = __real_hx_right_justified(number, width, buffer, buffer_length);
+    if (wrong(27) && r == 0 && width < buffer_length) /* ends the column with a zero */
+        buffer[width] = 0;
+    if (wrong(28) && r == HX_WIDTH_REFUSED && buffer_length < width) /* the higher number first */
+        return HX_BUFFER_REFUSED;
+    if (wrong(29) && r == HX_WIDTH_REFUSED && buffer_length != 0) /* a refused call writes */
+        buffer[0] = '*';
+    return r;
+}
+
+WRAPPED(size_t, hx_report, (const uint8_t *input, size_t input_length, uint8_t *page, size_t page_length))
+{
+    size_t r = __real_hx_report(input, input_length, page, page_length);
+    if (wrong(30)) /* writes behind the report, where that is also the page's end */
+        page[r] = 0;
+    if (wrong(31) && r == 0 && page_length != 0) /* writes on a page that is too short */
+        page[0] = ' ';
+    if (wrong(32) && r != 0) /* one byte less than there are */
+        return r - 1;
+    if (wrong(33)) /* looks for a line feed in an input of any length */
+        for (size_t i = 0; i < input_length && input[i] != '\n'; i++)
+            sink = input[i];
+    return r;
+}
