@@ -1,8 +1,8 @@
 /*
  * Hirtxonda: the SSE4.2 string compares as a proved software model, and the search over it, for C and C++.
  *
- * Link with target/staticlib/libcapi.a, which `rt staticlib capi` proves and builds. The library needs nothing else: it has no state, takes no memory of its own but the
- * stack, and may be called from several threads at once.
+ * Link with target/staticlib/libcapi.a, which `rt staticlib capi` proves and builds. The library needs memcpy and memset and nothing else: it has no state, takes no memory of
+ * its own but the stack, and may be called from several threads at once.
  *
  * What is the same for all calls:
  *
@@ -10,10 +10,10 @@
  *   hx_pcmpestri_0c and its three siblings, which refuse nothing, and hx_report return something else.
  * - A refused call writes nothing: what stood behind each pointer still stands there.
  * - The caller owns everything. The library keeps no pointer after a call, and frees nothing.
- * - A pointer must not be null, also where its length is 0, and a uint16_t pointer must be aligned. A length is in elements: bytes, or words of 16 bits.
+ * - A pointer must not be null, also where its length is 0, and must be aligned for its type. A length is in elements: bytes, or words of 16 bits.
  * - What is written (cursor, index, flags, mask, buffer, page, ..) must overlap nothing else that the call is handed.
- * - Every value is allowed for every number, and every byte in every buffer: each is answered or refused. Nothing is read or written outside the buffers as long as their
- *   lengths are true, and a length that is refused is refused before anything is read.
+ * - Every value is allowed for every number, and every byte in every buffer: each is answered or refused. A length that is above its limit is refused before anything is
+ *   read. Any other length must be true: then nothing is read or written outside the buffers.
  */
 #ifndef HIRTXONDA_H
 #define HIRTXONDA_H
@@ -44,6 +44,10 @@ extern "C" {
 
 #define HX_LONGEST_TEXT 1048576u
 #define HX_LONGEST_NEEDLE 1024u
+#define HX_MOST_COMPARES UINT64_C(1099511627776)
+#define HX_LONGEST_LIST_IN_BYTES 16u /* of a set or of bounds */
+#define HX_LONGEST_LIST_IN_WORDS 8u
+#define HX_WIDEST_COLUMN 20u
 #define HX_LONGEST_INPUT 65536u
 #define HX_LONGEST_REPORT 589843u /* a page of this many bytes is long enough for the report of every input */
 
