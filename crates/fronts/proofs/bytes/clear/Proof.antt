@@ -62,7 +62,7 @@ add-p : tie.Need-add-p Inv-loop μ-loop
 add-p c = search needs
 
 loop-less : tie.Need-loop-less Inv-loop μ-loop
-loop-less c = less-left 16 _ _ (c .before .before .before .loop-test .taken) (omega arith)
+loop-less c = less-left _ _ _ (c .before .before .before .loop-test .taken) (omega arith)
 
 loop-again : tie.Need-loop-again Inv-loop μ-loop
 loop-again c =
