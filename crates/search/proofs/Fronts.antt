@@ -5,7 +5,7 @@ use mathlib.Core.Path.{_≡_, sym, ap, _∙_}
 use mathlib.Core.Bool.{Bool, true, false, _||_}
 use mathlib.Core.List.{List}
 use lib.Dec.{eqb, leb}
-use lib.ListN.{length, getD, take, drop, length-take, length-drop}
+use lib.ListN.{length, getD, take, drop, length-take}
 use lib.Seq.{getD-take}
 use native.Mathlib.Omega.{arith}
 use native.Mathlib.Nat.{add-zero, suc-mul, zero-add, zero-mul}
@@ -24,13 +24,11 @@ use Rattle.search.proofs.Compare.{FitsAt, ordered-none}
 use Rattle.search.proofs.Steps.{step-none}
 use Rattle.search.proofs.Walks.{plus-plus, walk-onward}
 
--- ---- one block
+-- ---- how long a block is, how many there are, and how far they lead
 
 count-most : (words : Bool) → count words ≤ 16
 count-most true = omega arith
 count-most false = omega arith
-
--- ---- how many blocks, and how far
 
 blocks-counted : (words : Bool) (p k q : ℕ) → q ≡ p + k * count words → (q - p) / count words ≡ k
 blocks-counted true p k q e = omega arith
