@@ -65,13 +65,16 @@ module _ (b : ℕ) (text needle : List ℕ) (rows : List Bool) (p : ℕ) where
     each = below-more (λ i. ClearAt b text needle rows (p + i * b)) (c .blocks) (c .each) (rw (sym (c .reached)) k);
   }
 
--- What a position within reach leaves room for in a text of n elements: m elements and w. k is the lesser of the two.
-pub within-reach : (m w k p n : ℕ) → k ≡ min m w → m + (w - k) ≤ n → p ≤ n - (m + (w - k)) → (p + m ≤ n) × (p + w ≤ n)
-within-reach m w k p n e h g = (omega arith, omega arith)
+-- What a position within reach leaves room for in a text of n elements: m elements and w. k is the lesser of the two, and j of n and one less than they need.
+pub within-reach : (m w k j p n : ℕ) → k ≡ min m w → j ≡ min n (m + (w - k) - 1) → p < n - j → 0 < w → (p + m ≤ n) × (p + w ≤ n)
+within-reach m w k j p n e f g h = (omega arith, omega arith)
 
 -- past a block that there is room for, fewer positions are left
-pub less-left : (b p last : ℕ) → p ≤ last → 0 < b → last + 1 - (p + b) < last + 1 - p
-less-left b p last h g = omega arith
+pub less-left : (b p places : ℕ) → p < places → 0 < b → places - (p + b) < places - p
+less-left b p places h g = omega arith
 
 pub past : (p w : ℕ) → p + w - p ≡ w
 past p w = omega arith
+
+pub positive : (m : ℕ) → (m ≡ 0 → ⊥) → 0 < m
+positive m h = omega arith

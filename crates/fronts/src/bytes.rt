@@ -45,12 +45,9 @@ pub fn clear(text: &[u8], needle: &[u8], rows: &[bool; 64], from: usize) -> usiz
     if m == 0 {
         return from;
     }
-    if reach > n {
-        return from;
-    }
-    let last = n - reach;
+    let places = n - blocks::lesser(n, reach - 1);
     let mut p = from;
-    while p <= last {
+    while p < places {
         let e = p + 19;
         if may_start(&text[p..e], needle, rows) {
             return p;

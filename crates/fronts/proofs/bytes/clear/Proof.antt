@@ -6,15 +6,15 @@ use native.Mathlib.Omega.{arith}
 use borrow.Author.Needs.{needs}
 use Rattle.blocks.proofs.Compares.{part-size}
 use Rattle.fronts.specs.Fronts.{Clear}
-use Rattle.fronts.proofs.Turns.{block-clear, clear-start, clear-more, within-reach, less-left, past}
+use Rattle.fronts.proofs.Turns.{block-clear, clear-start, clear-more, within-reach, less-left, past, positive}
 use Rattle.fronts.proofs.bytes.clear.Statement.{statement}
 use Rattle.fronts.proofs.bytes.clear.Tie as tie
 
 abbrev Inv-loop : tie.InvT-loop
-Inv-loop text needle rows from n m reach last p₀ p = Clear 16 text needle rows from p
+Inv-loop text needle rows from n m reach places p₀ p = Clear 16 text needle rows from p
 
 abbrev μ-loop : tie.MeasureT-loop
-μ-loop text needle rows from n m reach last p₀ p = last + 1 - p
+μ-loop text needle rows from n m reach places p₀ p = places - p
 
 lesser-requires : tie.Need-lesser-requires Inv-loop μ-loop
 lesser-requires c κs = search needs
@@ -28,8 +28,14 @@ add-reach c = search needs
 returns : tie.Need-returns Inv-loop μ-loop
 returns c = clear-start 16 _ _ _ _
 
-returns-2 : tie.Need-returns-2 Inv-loop μ-loop
-returns-2 c = clear-start 16 _ _ _ _
+sub-lesser : tie.Need-sub-lesser Inv-loop μ-loop
+sub-lesser c = search needs
+
+lesser-requires-2 : tie.Need-lesser-requires-2 Inv-loop μ-loop
+lesser-requires-2 c κs = search needs
+
+sub-places : tie.Need-sub-places Inv-loop μ-loop
+sub-places c = search needs
 
 loop-holds : tie.Need-loop-holds Inv-loop μ-loop
 loop-holds c = clear-start 16 _ _ _ _
@@ -52,14 +58,20 @@ may-start-requires c κs =
     let s = l .before .before .before in
     let a = s .before .before .before .args in
     let p = l .loop .p in
-    let room = within-reach (length (a .needle .now)) 19 (s .lesser .result) p (length (a .text .now)) (s .lesser .ensures) (omega arith) (omega arith) in
-    (part-size p (p + 19) (a .text .now) (room .1) ∙ past p 19, omega arith)
+    let room = within-reach (length (a .needle .now)) 19 (s .lesser .result) (l .before .lesser2 .result) p (length (a .text .now)) (s .lesser .ensures) (l .before .lesser2 .ensures) (c .before .loop-test .taken) (omega arith) in
+    (part-size p (p + 19) (a .text .now) (room .1) ∙ past p 19, positive (length (a .needle .now)) (l .before .before .if1 .left))
 
-returns-3 : tie.Need-returns-3 Inv-loop μ-loop
-returns-3 c = c .before .before .before .before .loop .inv
+returns-2 : tie.Need-returns-2 Inv-loop μ-loop
+returns-2 c = c .before .before .before .before .loop .inv
 
 add-p : tie.Need-add-p Inv-loop μ-loop
-add-p c = search needs
+add-p c =
+    let l = c .before .before .before .before in
+    let s = l .before .before .before in
+    let a = s .before .before .before .args in
+    let p = l .loop .p in
+    let room = within-reach (length (a .needle .now)) 19 (s .lesser .result) (l .before .lesser2 .result) p (length (a .text .now)) (s .lesser .ensures) (l .before .lesser2 .ensures) (c .before .before .before .loop-test .taken) (omega arith) in
+    omega (arith, room .1)
 
 loop-less : tie.Need-loop-less Inv-loop μ-loop
 loop-less c = less-left _ _ _ (c .before .before .before .loop-test .taken) (omega arith)
@@ -70,12 +82,12 @@ loop-again c =
     let s = l .before .before .before in
     let a = s .before .before .before .args in
     let p = l .loop .p in
-    let room = within-reach (length (a .needle .now)) 19 (s .lesser .result) p (length (a .text .now)) (s .lesser .ensures) (omega arith) (omega arith) in
+    let room = within-reach (length (a .needle .now)) 19 (s .lesser .result) (l .before .lesser2 .result) p (length (a .text .now)) (s .lesser .ensures) (l .before .lesser2 .ensures) (c .before .before .before .loop-test .taken) (omega arith) in
     clear-more 16 (a .text .now) (a .needle .now) (a .rows .now) (a .from) p (l .loop .inv)
-    (block-clear 16 (a .text .now) (a .needle .now) (a .rows .now) p (room .0) (room .1) (c .before .may-start .ensures (c .if3 .left)))
+    (block-clear 16 (a .text .now) (a .needle .now) (a .rows .now) p (room .0) (room .1) (c .before .may-start .ensures (c .if2 .left)))
 
-returns-4 : tie.Need-returns-4 Inv-loop μ-loop
-returns-4 c = c .before .loop .inv
+returns-3 : tie.Need-returns-3 Inv-loop μ-loop
+returns-3 c = c .before .loop .inv
 
 pub clear-spec : {M : Type 1} → statement M
 clear-spec =
@@ -87,15 +99,17 @@ clear-spec =
     sub-reach
     add-reach
     returns
-    returns-2
+    sub-lesser
+    lesser-requires-2
+    sub-places
     loop-holds
     add-e
     sub-may-start
     part-may-start-start
     part-may-start-end
     may-start-requires
-    returns-3
+    returns-2
     add-p
     loop-less
     loop-again
-    returns-4)
+    returns-3)
