@@ -1,11 +1,10 @@
 -- What the parts of the search say, for the contracts of its private functions. A reader of the public calls needs none of it.
-use Prim.Native.Nat.{ℕ, _+_, _*_, _-_, _/_, _%_, _≤_, min}
+use Prim.Native.Nat.{ℕ, _+_, _≤_}
 use mathlib.Core.Path.{_≡_}
-use mathlib.Core.Bool.{Bool, true, false, cond, _&&_, _||_}
+use mathlib.Core.Bool.{Bool, true, false, cond}
 use mathlib.Core.List.{List}
-use lib.Dec.{eqb, leb, ltb}
-use lib.ListN.{drop, getD, length}
-use Rattle.pcmpstr.specs.Operand.{count}
+use lib.Dec.{ltb}
+use lib.ListN.{drop, length}
 use Rattle.search.specs.declared.Cursor.{Cursor}
 use Rattle.search.specs.declared.Next.{Next}
 use Rattle.search.specs.declared.Next.the-variants.{Match, Absent}
@@ -49,28 +48,7 @@ ended p (nowhere k) = Absent (cursorAt p k true)
 abbrev pub emptyNeedle : ℕ → Cursor → Next
 emptyNeedle n c = ended (c .position) (cond (ltb n (c .position)) (nowhere (c .compares)) (matchAt (c .position) (c .compares)))
 
--- ---- blocks in which the needle stands nowhere
-
--- Four rows of sixteen places, a row for each of the needle's first four letters: whether the letter is not asked for at that place of a block of
--- b elements, since the needle has only m letters or the letter would stand past the block.
-abbrev pub unaskedIn : ℕ → ℕ → ℕ → Bool
-unaskedIn b m k = leb m (k / 16) || leb b (k / 16 + k % 16)
-
--- Letter i of the needle x, or its last one, stands in y where x would begin at place j, or the rows u do not ask for it.
-abbrev pub standsAt : List ℕ → List ℕ → List Bool → ℕ → ℕ → Bool
-standsAt y x u j i = eqb (getD y (j + i) 0) (getD x (min i (length x - 1)) 0) || getD u (16 * i + j) false
-
--- the first four letters do
-abbrev pub startsAt : List ℕ → List ℕ → List Bool → ℕ → Bool
-startsAt y x u j = ((standsAt y x u j 0 && standsAt y x u j 1) && standsAt y x u j 2) && standsAt y x u j 3
-
--- Whole blocks from p to q hold no front of the needle: the walk passes them, with a compare for each.
-pub record Clear (words : Bool) (text needle : List ℕ) (p q : ℕ) : Type 0 where
-  pub passes : walk words text needle p ≡ plus ((q - p) / count words) (walk words text needle q)
-  pub onwards : p ≤ q
-  pub near : q ≤ length text + 17
-
--- the cursor c moved on to r, past such blocks
+-- The cursor c moved on to r: the walk ends as before, with all its compares.
 pub record Skipped (words : Bool) (text needle : List ℕ) (c r : Cursor) : Type 0 where
   pub same : total words text needle r ≡ total words text needle c
   pub onwards : c .position ≤ r .position

@@ -2,21 +2,21 @@
 use crate::Cursor;
 use crate::Next;
 use crate::Stepped;
-use crate::unasked;
 use blocks::padded_words;
 use blocks::whole_words;
 ghost use mathlib.Core.Path.{_≡_};
 ghost use mathlib.Core.Bool.{false, true};
-ghost use Prim.Native.Nat.{ℕ, _+_, _≤_, _<_, min};
+ghost use Prim.Native.Nat.{_+_, _≤_, _<_, min};
 ghost use lib.Dec.{ltb};
 ghost use lib.ListN.{length, take};
 ghost use lib.IntN.{pos};
 ghost use Rattle.bits.specs.Bits.{tabulate};
 ghost use Rattle.blocks.specs.Blocks.{compareIndex, eachNegated, longestText, operandOf};
+ghost use Rattle.fronts.specs.Fronts.{unaskedIn};
 ghost use Rattle.pcmpstr.specs.Calls.{PCMPESTRI};
 ghost use Rattle.search.specs.Walk.{step};
 ghost use Rattle.search.specs.Cursors.{longestNeedle, mostCompares, nextMatch};
-ghost use Rattle.search.specs.Parts.{Clear, Skipped, ended, laterAt, manyCompares, rested, standsAt, startsAt, stepped, total, unaskedIn};
+ghost use Rattle.search.specs.Parts.{Skipped, ended, laterAt, manyCompares, rested, stepped, total};
 
 // Where the needle's first piece first stands in a block of the text: `first` is the piece's operand and l its length. A whole block is filled
 // without a test for each byte. A short one, at the text's end, goes through the generic call: so the quick entry has one caller, and the compiler
@@ -41,64 +41,16 @@ fn differ(piece: &[u16], part: &[u16]) -> bool
     blocks::words_differ_at(piece, part) < 8
 }
 
-// Whether letter i of the needle stands in its place, for a needle that begins at place j of a block, or is not asked for there. `part` is the block
-// and three words more. Of a needle with no letter i, for which nobody asks, the last one is read.
-fn stands(part: &[u16], needle: &[u16], rows: &[bool; 64], j: usize, i: usize) -> bool
-    requires { ⌜ (length (now part) ≡ 11) × (0 < length (now needle)) × (j < 8) × (i ≤ 3) ⌝ }
-    ensures { λ r. ⌜ r ≡ standsAt (now (part .entry)) (now (needle .entry)) (now (rows .entry)) j i ⌝ }
-{
-    let k = blocks::lesser(i, needle.len() - 1);
-    (part[j + i] == needle[k]) | rows[16 * i + j]
-}
-
-// Whether the needle's first four letters stand anywhere in a block, as far as they are asked for. Where they do not, the index of its compare is b. The
-// tests are joined with no branch, so that the compiler makes them compares of whole vectors.
-fn may_start(part: &[u16], needle: &[u16], rows: &[bool; 64]) -> bool
-    requires { ⌜ (length (now part) ≡ 11) × (0 < length (now needle)) ⌝ }
-    ensures { λ r. ⌜ (r ≡ false → (j : ℕ) → j < 8 → startsAt (now (part .entry)) (now (needle .entry)) (now (rows .entry)) j ≡ false) ⌝ }
-{
-    let mut found = false;
-    let mut j = 0;
-    while j < 8 {
-        let x0 = stands(part, needle, rows, j, 0);
-        let x1 = stands(part, needle, rows, j, 1);
-        let x2 = stands(part, needle, rows, j, 2);
-        let x3 = stands(part, needle, rows, j, 3);
-        found = found | (x0 & x1 & x2 & x3);
-        j += 1;
-    }
-    found
-}
-
-// The position after the whole blocks from `from` on in which they stand nowhere.
-fn clear(text: &[u16], needle: &[u16], rows: &[bool; 64], from: usize) -> usize
-    requires { ⌜ (length (now text) ≤ longestText) × (length (now needle) ≤ longestNeedle) × (0 < length (now needle)) ⌝ }
-    requires { ⌜ (now rows ≡ tabulate 64 (unaskedIn 8 (length (now needle)))) × (from ≤ length (now text) + 17) ⌝ }
-    ensures { λ r. ⌜ Clear true (now (text .entry)) (now (needle .entry)) from r ⌝ }
-{
-    let n = text.len();
-    let m = needle.len();
-    let reach = m + 11 - blocks::lesser(m, 11);
-    let mut p = from;
-    while p + reach <= n {
-        let e = p + 11;
-        if may_start(&text[p..e], needle, rows) {
-            return p;
-        }
-        p += 8;
-    }
-    p
-}
-
 impl Cursor {
-    // The cursor past those blocks. Each takes the walk one compare, whose index is known without a call of the unit.
+    // The cursor past the blocks in which the needle's first four letters stand nowhere, as far as they are asked for. Each takes the walk one compare, whose
+    // index is b: that is known without a call of the unit.
     fn skip_in_words(self, text: &[u16], needle: &[u16], rows: &[bool; 64]) -> Cursor
         requires { ⌜ (length (now text) ≤ longestText) × (length (now needle) ≤ longestNeedle) × (0 < length (now needle)) ⌝ }
         requires { ⌜ (now rows ≡ tabulate 64 (unaskedIn 8 (length (now needle)))) × (self .position ≤ length (now text) + 17) × (self .compares ≤ manyCompares) ⌝ }
         ensures { λ r. ⌜ Skipped true (now (text .entry)) (now (needle .entry)) self r ⌝ }
     {
         let p = self.position as usize;
-        let q = clear(text, needle, rows, p);
+        let q = fronts::words::clear(text, needle, rows, p);
         Cursor {
             position: q as u64,
             compares: self.compares + ((q - p) / 8) as u64,
@@ -157,7 +109,7 @@ impl Cursor {
         let m = needle.len();
         let l = blocks::lesser(8, m);
         let first = padded_words(&needle[..l]);
-        let rows = unasked(8, m);
+        let rows = fronts::unasked(8, m);
         let mut at = self.skip_in_words(text, needle, &rows);
         while (at.position as usize) + m <= n {
             let s = at.step_in_words(text, needle, first, l);

@@ -17,8 +17,9 @@ add-t11 c = search needs
 returns : tie.Need-returns
 returns c =
     let k = c .before .clear in
-    let a = c .before .before .before .before .args in
-    skipped-past true (a .text .now) (a .needle .now) (a .self) (k .result) (k .ensures)
+    let s = c .before .before .before .before in
+    let a = s .args in
+    skipped-past true (a .text .now) (a .needle .now) (a .rows .now) (s .pre .0 .2) (s .pre .1 .0) (a .self) (k .result) (s .pre .1 .1) (k .ensures)
 
 pub skip-in-words-spec : {M : Type 1} → statement M
 skip-in-words-spec = tie.close (tie.spec clear-requires sub-t8 add-t11 returns)

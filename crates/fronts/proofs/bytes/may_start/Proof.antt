@@ -1,21 +1,21 @@
--- `search::words::may_start` meets its contract. The invariant: where nothing is found, the letters do not stand at any place
+-- `fronts::bytes::may_start` meets its contract. The invariant: where nothing is found, the letters do not stand at any place
 -- passed. Assumes nothing.
 use Prim.Native.Nat.{ℕ, _-_, _≤_, _<_}
 use mathlib.Core.Path.{_≡_}
 use mathlib.Core.Bool.{Bool, false, _&&_}
 use native.Mathlib.Omega.{arith}
 use borrow.Author.Needs.{needs}
-use Rattle.search.specs.Parts.{startsAt}
-use Rattle.search.proofs.Fronts.{none-more}
-use Rattle.search.proofs.words.may_start.Statement.{statement}
-use Rattle.search.proofs.words.may_start.Tie as tie
+use Rattle.fronts.specs.Fronts.{startsAt}
+use Rattle.fronts.proofs.Turns.{none-more}
+use Rattle.fronts.proofs.bytes.may_start.Statement.{statement}
+use Rattle.fronts.proofs.bytes.may_start.Tie as tie
 
 abbrev Inv-loop : tie.InvT-loop
 Inv-loop part needle rows found₀ j₀ found j =
-    (j ≤ 8) × (found ≡ false → (k : ℕ) → k < j → startsAt part needle rows k ≡ false)
+    (j ≤ 16) × (found ≡ false → (k : ℕ) → k < j → startsAt part needle rows k ≡ false)
 
 abbrev μ-loop : tie.MeasureT-loop
-μ-loop part needle rows found₀ j₀ found j = 8 - j
+μ-loop part needle rows found₀ j₀ found j = 16 - j
 
 loop-holds : tie.Need-loop-holds Inv-loop μ-loop
 loop-holds c = (omega arith, λ _ k h. absurd (omega arith))

@@ -1,7 +1,7 @@
--- `search::words::stands` meets its contract: each read lies within its list, and the test is the definition's. Assumes nothing.
+-- `fronts::words::stands` meets its contract: each read lies within its list, and the test is the definition's. Assumes nothing.
 use borrow.Author.Needs.{needs}
-use Rattle.search.proofs.words.stands.Statement.{statement}
-use Rattle.search.proofs.words.stands.Tie as tie
+use Rattle.fronts.proofs.words.stands.Statement.{statement}
+use Rattle.fronts.proofs.words.stands.Tie as tie
 
 sub-lesser : tie.Need-sub-lesser
 sub-lesser c = search needs

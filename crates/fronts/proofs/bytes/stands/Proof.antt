@@ -1,7 +1,7 @@
--- `search::bytes::stands` meets its contract: each read lies within its list, and the test is the definition's. Assumes nothing.
+-- `fronts::bytes::stands` meets its contract: each read lies within its list, and the test is the definition's. Assumes nothing.
 use borrow.Author.Needs.{needs}
-use Rattle.search.proofs.bytes.stands.Statement.{statement}
-use Rattle.search.proofs.bytes.stands.Tie as tie
+use Rattle.fronts.proofs.bytes.stands.Statement.{statement}
+use Rattle.fronts.proofs.bytes.stands.Tie as tie
 
 sub-lesser : tie.Need-sub-lesser
 sub-lesser c = search needs
