@@ -34,10 +34,15 @@ fn index(first: [u8; 16], l: usize, block: &[u8]) -> u32
     answer.index
 }
 
-// A piece of the needle and as many bytes of the text differ.
+// A piece of the needle and as many bytes of the text differ. Whole pieces are compared here, so that the compiler puts their compare into the loop.
 fn differ(piece: &[u8], part: &[u8]) -> bool
     ensures { λ r. ⌜ r ≡ ltb (compareIndex false eachNegated (now (piece .entry)) (now (part .entry))) 16 ⌝ }
 {
+    if piece.len() == 16 {
+        if part.len() == 16 {
+            return pcmpstr::pcmpestri_18(whole_bytes(piece), 16, whole_bytes(part), 16) < 16;
+        }
+    }
     blocks::bytes_differ_at(piece, part) < 16
 }
 
