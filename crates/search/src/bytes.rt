@@ -48,12 +48,15 @@ fn differ(piece: &[u8], part: &[u8]) -> bool
 
 impl Cursor {
     // The cursor past the blocks in which the needle's first four letters stand nowhere, as far as they are asked for. Each takes the walk one compare, whose
-    // index is b: that is known without a call of the unit.
-    fn skip_in_bytes(self, text: &[u8], needle: &[u8], rows: &[bool; 64]) -> Cursor
+    // index is b: that is known without a call of the unit. Before `near` they are not asked for: there a step has led to where all four stand.
+    fn skip_in_bytes(self, near: u64, text: &[u8], needle: &[u8], rows: &[bool; 64]) -> Cursor
         requires { ⌜ (length (now text) ≤ longestText) × (length (now needle) ≤ longestNeedle) × (0 < length (now needle)) ⌝ }
         requires { ⌜ (now rows ≡ tabulate 64 (unaskedIn 16 (length (now needle)))) × (self .position ≤ length (now text) + 17) × (self .compares ≤ manyCompares) ⌝ }
         ensures { λ r. ⌜ Skipped false (now (text .entry)) (now (needle .entry)) self r ⌝ }
     {
+        if self.position < near {
+            return self;
+        }
         let p = self.position as usize;
         let q = fronts::bytes::clear(text, needle, rows, p);
         Cursor {
@@ -115,14 +118,15 @@ impl Cursor {
         let l = blocks::lesser(16, m);
         let first = padded_bytes(&needle[..l]);
         let rows = fronts::unasked(16, m);
-        let mut at = self.skip_in_bytes(text, needle, &rows);
+        let mut at = self.skip_in_bytes(0, text, needle, &rows);
         while (at.position as usize) + m <= n {
+            let near = at.position + 13;
             let s = at.step_in_bytes(text, needle, first, l);
             at = s.cursor;
             if s.found {
                 return at.matched();
             }
-            at = at.skip_in_bytes(text, needle, &rows);
+            at = at.skip_in_bytes(near, text, needle, &rows);
         }
         at.absent(self.position)
     }

@@ -39,24 +39,27 @@ loop-holds c = (c .skip-in-words .ensures .near, c .skip-in-words .ensures .same
 add-loop : tie.Need-add-loop Inv-loop μ-loop
 add-loop c = search needs
 
+add-near : tie.Need-add-near Inv-loop μ-loop
+add-near c = search needs
+
 step-in-words-requires : tie.Need-step-in-words-requires Inv-loop μ-loop
 step-in-words-requires c κs =
-    let l = c .before in
+    let l = c .before .before in
     let s = l .before .before .before .before .before .before .before .before .before in
     let few = total-few true (s .args .text .now) (s .args .needle .now) (s .args .self) (l .loop .at) (l .loop .inv .1) (omega arith) (omega arith) (omega arith) in
     ((omega arith, omega arith, few), (omega arith, l .before .before .before .before .before .before .lesser .ensures, l .before .before .before .before .padded-words .ensures))
 
 matched-requires : tie.Need-matched-requires Inv-loop μ-loop
 matched-requires c κs =
-    let l = c .before .before .before .before in
+    let l = c .before .before .before .before .before in
     let s = l .before .before .before .before .before .before .before .before .before in
     let a = s .args in
     let here = found-here true (a .text .now) (a .needle .now) (l .loop .at) (c .before .before .step-in-words .result) (c .before .before .step-in-words .ensures) (c .if1 .taken) in
-    omega (arith, s .pre .0 .0, c .before .before .before .loop-test .taken)
+    omega (arith, s .pre .0 .0, c .before .before .before .before .loop-test .taken)
 
 returns : tie.Need-returns Inv-loop μ-loop
 returns c =
-    let l = c .before .before .before .before .before in
+    let l = c .before .before .before .before .before .before in
     let a = l .before .before .before .before .before .before .before .before .before .args in
     let t = c .before .before .before .step-in-words in
     c .matched .ensures
@@ -64,30 +67,30 @@ returns c =
 
 skip-in-words-requires-2 : tie.Need-skip-in-words-requires-2 Inv-loop μ-loop
 skip-in-words-requires-2 c κs =
-    let l = c .before .before .before .before .before in
+    let l = c .before .before .before .before .before .before in
     let s = l .before .before .before .before .before .before .before .before .before in
     let a = s .args in
     let t = c .before .before .before .step-in-words in
-    let room : l .loop .at .position + length (a .needle .now) ≤ length (a .text .now) = omega (arith, c .before .before .before .before .loop-test .taken) in
+    let room : l .loop .at .position + length (a .needle .now) ≤ length (a .text .now) = omega (arith, c .before .before .before .before .before .loop-test .taken) in
     let on = step-onward true (a .text .now) (a .needle .now) (l .loop .at) (t .result) (t .ensures) (c .before .if1 .left) room in
     let few = total-few true (a .text .now) (a .needle .now) (a .self) (t .result .cursor) (on .0 ∙ l .loop .inv .1) (s .pre .0 .0) (s .pre .0 .1) (s .pre .1 .1) in
     (s .pre .0, (l .before .before .before .unasked .ensures, omega (arith, on .2), few))
 
 loop-less : tie.Need-loop-less Inv-loop μ-loop
 loop-less c =
-    let l = c .before .before .before .before .before .before in
+    let l = c .before .before .before .before .before .before .before in
     let a = l .before .before .before .before .before .before .before .before .before .args in
     let t = c .before .before .before .before .step-in-words in
-    let room : l .loop .at .position + length (a .needle .now) ≤ length (a .text .now) = omega (arith, c .before .before .before .before .before .loop-test .taken) in
+    let room : l .loop .at .position + length (a .needle .now) ≤ length (a .text .now) = omega (arith, c .before .before .before .before .before .before .loop-test .taken) in
     let on = step-onward true (a .text .now) (a .needle .now) (l .loop .at) (t .result) (t .ensures) (c .before .before .if1 .left) room in
     nearer (length (a .needle .now)) (length (a .text .now)) (l .loop .at .position) (c .skip-in-words2 .result .position) room (omega (arith, on .1, c .skip-in-words2 .ensures .onwards))
 
 loop-again : tie.Need-loop-again Inv-loop μ-loop
 loop-again c =
-    let l = c .before .before .before .before .before .before in
+    let l = c .before .before .before .before .before .before .before in
     let a = l .before .before .before .before .before .before .before .before .before .args in
     let t = c .before .before .before .before .step-in-words in
-    let room : l .loop .at .position + length (a .needle .now) ≤ length (a .text .now) = omega (arith, c .before .before .before .before .before .loop-test .taken) in
+    let room : l .loop .at .position + length (a .needle .now) ≤ length (a .text .now) = omega (arith, c .before .before .before .before .before .before .loop-test .taken) in
     let on = step-onward true (a .text .now) (a .needle .now) (l .loop .at) (t .result) (t .ensures) (c .before .before .if1 .left) room in
     (c .skip-in-words2 .ensures .near, c .skip-in-words2 .ensures .same ∙ on .0 ∙ l .loop .inv .1)
 
@@ -114,6 +117,7 @@ walk-in-words-spec =
     skip-in-words-requires
     loop-holds
     add-loop
+    add-near
     step-in-words-requires
     matched-requires
     returns
