@@ -295,7 +295,7 @@ static void make_cases(size_t n) {
     uint8_t *text = fresh(n);
     make_register(text, n);
     const uint16_t *wide = widened(text, n);
-    static const char *names[] = {"LEE", "SMITH", "JONES", "QUIRK", "HARTE", "MARGARET", "ANDERSEN"};
+    static const char *names[] = {"E", "AN", "LEE", "SMITH", "JONES", "QUIRK", "HARTE", "MARGARET", "ANDERSEN"};
     for (int width = BYTES; width <= WORDS; width++) {
         for (size_t i = 0; i < COUNT(names); i++) {
             const uint8_t *needle = (const uint8_t *)names[i];
