@@ -7,7 +7,7 @@ use mathlib.Core.List.{List, [], _∷_}
 use lib.Dec.{eqb}
 use lib.IntN.{ℤ, pos}
 use lib.Signed.{ltZ}
-use lib.ListN.{getD, length}
+use lib.ListN.{getD}
 use Rattle.pcmpstr.specs.declared.Flags.{Flags}
 use Rattle.pcmpstr.specs.declared.IndexAnswer.{IndexAnswer}
 use Rattle.pcmpstr.specs.declared.MaskAnswer.{MaskAnswer}
@@ -80,17 +80,17 @@ pub record NextGiven (a : Next) (cursor : List ℕ) (position r : ℕ) (cursor' 
 
 -- ---- runs and orders
 
--- a number that tells of a part or of a text: the refusal, and what is told
+-- a call that tells one number, as the length of a run or which text is the smaller: its refusal, the number told, what stood there before; what it returns, what stands there after it
 pub record NumberGiven (number told old r new : ℕ) : Type 0 where
   pub refusal : r ≡ number
   pub told-after : new ≡ unlessRefused number told old
 
--- an order
+-- an order, in the same way
 pub record OrderGiven (a : OrderAnswer) (old : ℤ) (r : ℕ) (new : ℤ) : Type 0 where
   pub refusal : r ≡ a .refusal
   pub order-after : new ≡ unlessRefused (a .refusal) (a .order) old
 
--- which text is the smaller: 0 the first, 1 the second
+-- Which text is the smaller, from their order: 0 the first, 1 the second. It is for a private function; the public contracts name `isSecond`.
 pub record LesserGiven (a : OrderAnswer) (old r new : ℕ) : Type 0 where
   pub refusal : r ≡ a .refusal
   pub which-after : new ≡ unlessRefused (a .refusal) (cond (ltZ (pos 0) (a .order)) 1 0) old

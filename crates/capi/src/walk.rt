@@ -1,5 +1,4 @@
 // The cursor and next match.
-use crate::truth;
 use crate::weighed;
 use search::Cursor;
 use search::Next;

@@ -186,5 +186,5 @@ pub fn pcmpestri_19(operand1: [u8; 16], length1: usize, operand2: [u8; 16], leng
     let x2 = operand::words_of(operand2);
     let l1 = operand::cut(8, length1);
     let l2 = operand::cut(8, length2);
-    words::differ(&x1, l1, &x2, l2)
+    words::differ_at(&x1, l1, &x2, l2)
 }

@@ -112,7 +112,7 @@ fn equal_each(x1: &[u16; 8], l1: usize, x2: &[u16; 8], l2: usize) -> u32
 }
 
 // Where two parts of one length first differ, or 8. Word by word: the compiler makes no mask of a compare of eight words.
-fn differ_at(x1: &[u16; 8], x2: &[u16; 8], l: usize) -> u32
+fn same_length_differ_at(x1: &[u16; 8], x2: &[u16; 8], l: usize) -> u32
     requires { ⌜ l ≤ 8 ⌝ }
     ensures { λ r. ⌜ r ≡ leastBelow 8 (λ j. not (eachOf (now (x1 .entry)) l (now (x2 .entry)) l j)) ⌝ }
 {
@@ -127,12 +127,12 @@ fn differ_at(x1: &[u16; 8], x2: &[u16; 8], l: usize) -> u32
 }
 
 // The least bit of equal each, negated, or 8. Parts of one length, as a search compares them, differ at a valid element or nowhere.
-pub fn differ(x1: &[u16; 8], l1: usize, x2: &[u16; 8], l2: usize) -> u32
+pub fn differ_at(x1: &[u16; 8], l1: usize, x2: &[u16; 8], l2: usize) -> u32
     requires { ⌜ (l1 ≤ 8) × (l2 ≤ 8) ⌝ }
     ensures { λ r. ⌜ r ≡ leastBelow 8 (λ j. not (eachOf (now (x1 .entry)) l1 (now (x2 .entry)) l2 j)) ⌝ }
 {
     if l1 == l2 {
-        return differ_at(x1, x2, l1);
+        return same_length_differ_at(x1, x2, l1);
     }
     bits::least(equal_each(x1, l1, x2, l2) ^ 0xff, 8)
 }

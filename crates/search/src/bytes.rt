@@ -48,7 +48,7 @@ fn differ(piece: &[u8], part: &[u8]) -> bool
 
 impl Cursor {
     // The cursor past the blocks in which the needle's first four letters stand nowhere, as far as they are asked for. Each takes the walk one compare, whose
-    // index is b: that is known without a call of the unit. Before `near` they are not asked for: there a step has led to where all four stand.
+    // index is b: that is known without a call of the unit. Before `near` they are not asked for: a step that led no further has mostly just found them there.
     fn skip_in_bytes(self, near: u64, text: &[u8], needle: &[u8], rows: &[bool; 64]) -> Cursor
         requires { ⌜ (length (now text) ≤ longestText) × (length (now needle) ≤ longestNeedle) × (0 < length (now needle)) ⌝ }
         requires { ⌜ (now rows ≡ tabulate 64 (unaskedIn 16 (length (now needle)))) × (self .position ≤ length (now text) + 17) × (self .compares ≤ manyCompares) ⌝ }

@@ -43,7 +43,7 @@ fn differ(piece: &[u16], part: &[u16]) -> bool
 
 impl Cursor {
     // The cursor past the blocks in which the needle's first four letters stand nowhere, as far as they are asked for. Each takes the walk one compare, whose
-    // index is b: that is known without a call of the unit. Before `near` they are not asked for: there a step has led to where all four stand.
+    // index is b: that is known without a call of the unit. Before `near` they are not asked for: a step that led no further has mostly just found them there.
     fn skip_in_words(self, near: u64, text: &[u16], needle: &[u16], rows: &[bool; 64]) -> Cursor
         requires { ⌜ (length (now text) ≤ longestText) × (length (now needle) ≤ longestNeedle) × (0 < length (now needle)) ⌝ }
         requires { ⌜ (now rows ≡ tabulate 64 (unaskedIn 8 (length (now needle)))) × (self .position ≤ length (now text) + 17) × (self .compares ≤ manyCompares) ⌝ }

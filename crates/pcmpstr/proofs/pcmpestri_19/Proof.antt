@@ -1,4 +1,4 @@
--- `pcmpstr::pcmpestri_19` meets its contract: at that control the index is where `differ` says.
+-- `pcmpstr::pcmpestri_19` meets its contract: at that control the index is where `differ_at` says.
 -- Assumes nothing.
 use mathlib.Core.Bool.{true}
 use lib.IntN.{pos}
@@ -20,8 +20,8 @@ cut-requires c κs = search needs
 cut-requires-2 : tie.Need-cut-requires-2
 cut-requires-2 c κs = search needs
 
-differ-requires : tie.Need-differ-requires
-differ-requires c κs =
+differ-at-requires : tie.Need-differ-at-requires
+differ-at-requires c κs =
     (omega (arith, c .before .before .before .cut .ensures), omega (arith, c .before .before .cut2 .ensures))
 
 returns : tie.Need-returns
@@ -31,8 +31,8 @@ returns c =
     let g = c .before .before .before .cut2 in
     let l₁ = cut-explicit 8 (s .args .length1) (f .result) (f .ensures) in
     let l₂ = cut-explicit 8 (s .args .length2) (g .result) (g .ensures) in
-    differ-index (s .args .operand1) (pos (s .args .length1)) (s .args .operand2) (pos (s .args .length2)) (f .result) (g .result) (c .differ .result) true l₁ l₂
-    (rw (c .before .before .before .before .before .before .words-of .ensures, c .before .before .before .before .before .words-of2 .ensures) at (c .differ .ensures))
+    differ-index (s .args .operand1) (pos (s .args .length1)) (s .args .operand2) (pos (s .args .length2)) (f .result) (g .result) (c .differ-at .result) true l₁ l₂
+    (rw (c .before .before .before .before .before .before .words-of .ensures, c .before .before .before .before .before .words-of2 .ensures) at (c .differ-at .ensures))
 
 pub pcmpestri-19-spec : {M : Type 1} → statement M
 pcmpestri-19-spec =
@@ -42,5 +42,5 @@ pcmpestri-19-spec =
     words-of-requires-2
     cut-requires
     cut-requires-2
-    differ-requires
+    differ-at-requires
     returns)
