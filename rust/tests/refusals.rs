@@ -7,7 +7,7 @@ mod raw;
 
 use common::search_refusal;
 use hirtxonda::{
-    pcmpestri, pcmpestrm, pcmpistri, pcmpistrm, Cursor, Refusal, LONGEST_NEEDLE, LONGEST_TEXT, MOST_COMPARES,
+    pcmpestri, pcmpestrm, pcmpistri, pcmpistrm, Cursor, Element, Refusal, LONGEST_NEEDLE, LONGEST_TEXT, MOST_COMPARES,
 };
 use raw::*;
 
@@ -46,7 +46,8 @@ fn header() {
     let header = include_str!("../../include/hirtxonda.h");
     let defined = |name: &str| {
         let line = header.lines().find(|line| line.starts_with(&format!("#define HX_{name} "))).expect(name);
-        line.split_whitespace().nth(2).unwrap().trim_end_matches('u').parse::<usize>().expect(name)
+        let value = line.split_whitespace().nth(2).unwrap().trim_start_matches("UINT64_C(");
+        value.trim_end_matches([')', 'u']).parse::<usize>().expect(name)
     };
     assert_eq!(header.lines().filter(|line| line.starts_with("#define HX_") && line.contains("_REFUSED ")).count(), 12);
     for number in (0..100).filter_map(Refusal::from_number) {
@@ -55,6 +56,10 @@ fn header() {
     }
     assert_eq!(defined("LONGEST_TEXT"), LONGEST_TEXT);
     assert_eq!(defined("LONGEST_NEEDLE"), LONGEST_NEEDLE);
+    assert_eq!(defined("MOST_COMPARES") as u64, MOST_COMPARES);
+    assert_eq!(defined("LONGEST_LIST_IN_BYTES"), u8::BLOCK);
+    assert_eq!(defined("LONGEST_LIST_IN_WORDS"), u16::BLOCK);
+    assert_eq!(defined("WIDEST_COLUMN"), hirtxonda::WIDEST_COLUMN);
     assert_eq!(defined("LONGEST_INPUT"), hirtxonda::LONGEST_INPUT);
     assert_eq!(defined("LONGEST_REPORT"), hirtxonda::LONGEST_REPORT);
     assert_eq!(defined("ABSENT"), ABSENT as usize);

@@ -424,8 +424,8 @@ static void make_blocks(void) {
         default: _mm_storeu_si128((__m128i *)mask, _mm_cmpistrm(a, b, K)); *flags = IFLAGS(K, a, b);       \
         }                                                                                                  \
     }
-#define EIGHT(M, D) M(D##0) M(D##1) M(D##2) M(D##3) M(D##4) M(D##5) M(D##6) M(D##7) M(D##8) M(D##9) M(D##a) M(D##b) M(D##c) M(D##d) M(D##e) M(D##f)
-#define ALL(M) EIGHT(M, 0x0) EIGHT(M, 0x1) EIGHT(M, 0x2) EIGHT(M, 0x3) EIGHT(M, 0x4) EIGHT(M, 0x5) EIGHT(M, 0x6) EIGHT(M, 0x7)
+#define SIXTEEN(M, D) M(D##0) M(D##1) M(D##2) M(D##3) M(D##4) M(D##5) M(D##6) M(D##7) M(D##8) M(D##9) M(D##a) M(D##b) M(D##c) M(D##d) M(D##e) M(D##f)
+#define ALL(M) SIXTEEN(M, 0x0) SIXTEEN(M, 0x1) SIXTEEN(M, 0x2) SIXTEEN(M, 0x3) SIXTEEN(M, 0x4) SIXTEEN(M, 0x5) SIXTEEN(M, 0x6) SIXTEEN(M, 0x7)
 ALL(REAL_UNIT)
 #define NAME(K) real_##K,
 static void (*const real_unit[128])(const block *, int, uint32_t *, uint8_t *, uint32_t *) = {ALL(NAME)};
