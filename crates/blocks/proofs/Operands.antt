@@ -1,17 +1,18 @@
 -- How a loop fills an operand over zeros: after k stores its first k bytes are there, and past a part's end every byte is zero. Assumes nothing.
-use Prim.Native.Nat.{ℕ, _+_, _*_, _/_, _%_, _≤_, _<_}
-use mathlib.Core.Path.{_≡_, refl, sym, _∙_}
+use Prim.Native.Nat.{ℕ, zero, suc, _+_, _*_, _/_, _%_, _≤_, _<_, min}
+use mathlib.Core.Path.{_≡_, refl, sym, ap, _∙_}
 use mathlib.Core.Bool.{Bool, true, false, cond}
 use mathlib.Core.List.{List}
 use lib.Dec.{eqb, ltb}
-use lib.ListN.{length, getD, set, length-set, List·getD-eq-default}
+use lib.ListN.{length, getD, set, replicate, length-set, List·getD-eq-default}
 use lib.Seq.{ext-getD, getD-set-same, getD-set-other}
 use native.Mathlib.Omega.{arith}
+use native.Mathlib.Numerals.{add-one}
 use borrow.Author.Tests.{lt-ltb, le-ltb, eq-eqb, ne-eqb, eqb-true, eqb-false}
 use Rattle.bits.specs.Bits.{tabulate}
 use Rattle.bits.proofs.Below.{by-test, by-order}
 use Rattle.bits.proofs.Lists.{length-tabulate, getD-tabulate, tabulate-same}
-use Rattle.blocks.specs.Blocks.{operandByte}
+use Rattle.blocks.specs.Blocks.{operandByte, operandOf, stores}
 
 -- the first k bytes, and zero
 abbrev pub upTo : (ℕ → ℕ) → ℕ → ℕ → ℕ
@@ -48,9 +49,24 @@ module _ (f : ℕ → ℕ) where
       e ∙ tabulate-same 16 (upTo f k) f
       (λ j h. by-order j k (λ g. rw (lt-ltb j k g)) (λ g. rw (le-ltb j k g) (sym (z j g h))))
 
+  -- stores over zeros
+  pub stores-zeros : (k : ℕ) → k ≤ 16 → stores f k (replicate 16 0) ≡ tabulate 16 (upTo f k)
+  unfolding tabulate
+  stores-zeros zero h = refl
+  stores-zeros (suc k) h =
+      stored (stores f k (replicate 16 0)) k (f k) (omega arith) (stores-zeros k (omega arith)) refl
+      ∙ ap (λ (n : ℕ). tabulate 16 (upTo f n)) (add-one k)
+
 -- past the part's end
 pub past-bytes : (x : List ℕ) (j : ℕ) → length x ≤ j → operandByte false x j ≡ 0
 past-bytes x j h = List·getD-eq-default x 0 h
+
+-- zeros over which a part in bytes is written are its operand
+pub filled-zeros : (x a : List ℕ) → a ≡ stores (operandByte false x) (min (length x) 16) (replicate 16 0) → a ≡ operandOf false x
+unfolding operandOf
+filled-zeros x a e =
+    let n = min (length x) 16 in
+    all-stored (operandByte false x) a n (e ∙ stores-zeros (operandByte false x) n (omega arith)) (λ j h g. past-bytes x j (omega arith))
 
 pub past-words : (x : List ℕ) (j : ℕ) → 2 * length x ≤ j → operandByte true x j ≡ 0
 past-words x j h =

@@ -1,9 +1,9 @@
 -- A text and its parts, as the unit takes them. `words` is the width: bytes where it is false, words where it is true.
-use Prim.Native.Nat.{ℕ, _+_, _/_, _%_}
+use Prim.Native.Nat.{ℕ, zero, suc, _+_, _/_, _%_}
 use mathlib.Core.Bool.{Bool, true, false, cond}
 use mathlib.Core.List.{List}
 use lib.Dec.{eqb}
-use lib.ListN.{length, getD}
+use lib.ListN.{length, getD, set}
 use lib.IntN.{pos}
 use Rattle.bits.specs.Bits.{tabulate}
 use Rattle.pcmpstr.specs.Calls.{PCMPESTRI}
@@ -21,6 +21,11 @@ operandByte true x i = cond (eqb (i % 2) 0) (getD x (i / 2) 0 % 256) (getD x (i 
 
 unfoldable pub operandOf : Bool → List ℕ → List ℕ
 operandOf words x = tabulate 16 (operandByte words x)
+
+-- an operand after k stores from its front on, byte i from f
+abbrev pub stores : (ℕ → ℕ) → ℕ → List ℕ → List ℕ
+stores f zero bytes = bytes
+stores f (suc k) bytes = set (stores f k bytes) k (f k)
 
 -- ---- one compare
 

@@ -1,13 +1,17 @@
 // A text as the unit takes it: how long it may be, and operands of sixteen bytes filled from its parts, zero past the part's end. Document 01: "a
 // helper fills the sixteen bytes of the operand, zero past the part's end".
 //
-// Public calls: `whole_bytes` and `padded_bytes` for a part in bytes, `whole_words` and `padded_words` for one in words; `bytes_differ_at` and
-// `words_differ_at`, a compare of two parts; and `lesser`, by which a block's end is found. None asks anything of its arguments. The two of a pair say the same: of a part that is too long the first sixteen bytes, or
-// eight words, are taken. `whole_..` is the quick one where the part is a whole block, `padded_..` where it is shorter.
+// Public calls: `whole_bytes` and `padded_bytes` for a part in bytes, `whole_words` and `padded_words`
+// for one in words; `fill_bytes`, which fills an operand in its place; `bytes_differ_at` and
+// `words_differ_at`, a compare of two parts; and `lesser`, by which a block's end is found. None asks
+// anything of its arguments. The two of a pair say the same: of a part that is too long the first
+// sixteen bytes, or eight words, are taken. `whole_..` is the quick one where the part is a whole
+// block, `padded_..` where it is shorter.
 ghost use mathlib.Core.Path.{_≡_};
 ghost use mathlib.Core.Bool.{true, false};
 ghost use Prim.Native.Nat.{_/_, _%_, min};
-ghost use Rattle.blocks.specs.Blocks.{compareIndex, eachNegated, operandOf};
+ghost use Rattle.blocks.specs.Blocks.{compareIndex, eachNegated, operandByte, operandOf, stores};
+ghost use lib.ListN.{length};
 
 // The most elements of a text. Refusal number 2 of document 01: a text has more.
 pub const LONGEST_TEXT: usize = 1048576;
@@ -48,18 +52,26 @@ pub fn whole_bytes(part: &[u8]) -> [u8; 16]
     ]
 }
 
-// The same operand, filled over zeros as far as the part goes.
-pub fn padded_bytes(part: &[u8]) -> [u8; 16]
-    ensures { λ r. ⌜ r ≡ operandOf false (now (part .entry)) ⌝ }
+// Writes a part in bytes over the front of an operand, as far as both go. An operand that is filled
+// where it stands is not copied, and a copy has to wait for the bytes just written.
+pub fn fill_bytes(bytes: &mut [u8; 16], part: &[u8])
+    ensures { λ _. ⌜ now (bytes .exit) ≡ stores (operandByte false (now (part .entry))) (min (length (now (part .entry))) 16) (now (bytes .entry)) ⌝ }
 {
     let n = lesser(part.len(), 16);
-    let mut bytes = [0u8; 16];
     let mut i = 0;
     while i < n {
         bytes[i] = part[i];
         i += 1;
     }
-    bytes
+}
+
+// The same operand, filled over zeros as far as the part goes.
+pub fn padded_bytes(part: &[u8]) -> [u8; 16]
+    ensures { λ r. ⌜ r ≡ operandOf false (now (part .entry)) ⌝ }
+{
+    let mut operand = [0u8; 16];
+    fill_bytes(&mut operand, part);
+    operand
 }
 
 // The low byte of a word, and the high one.
