@@ -8,7 +8,7 @@ use lib.ListN.{length, getD}
 use native.Mathlib.Omega.{arith}
 use borrow.Author.Tests.{ltb-true, ltb-false, lt-ltb, le-ltb, eqb-true, eq-eqb, not-false}
 use Rattle.bits.specs.Bits.{leastBelow}
-use Rattle.bits.proofs.Below.{least-within, by-test, least-before, least-none, least-passes, all-each, each-all}
+use Rattle.bits.proofs.Below.{least-within, by-test, least-before, least-passes, all-each, each-all}
 use Rattle.blocks.specs.Blocks.{compareIndex, eachNegated}
 use Rattle.blocks.proofs.Compares.{parts-index, eachBit, each-is}
 use Rattle.pcmpstr.specs.declared.Aggregation.the-variants.{EqualOrdered}
@@ -67,19 +67,12 @@ module _ (words : Bool) (x y : List ℕ) (hx : length x ≤ count words) (hy : l
   pub ordered-most : compareIndex words ordered x y ≤ count words
   ordered-most = rw (ordered-is words x y hx hy) (least-within (count words) (orderedBit (count words) x y))
 
-  -- where it fits nowhere, the index is b
-  pub ordered-none : ((j : ℕ) → j < count words → FitsAt (count words) x y j → ⊥) → compareIndex words ordered x y ≡ count words
-  ordered-none f =
+  -- at an index below b it fits
+  pub ordered-at : (k : ℕ) → compareIndex words ordered x y ≡ k → k < count words → FitsAt (count words) x y k
+  ordered-at k e h =
       let b = count words in
-      ordered-is words x y hx hy
-      ∙ least-none b (orderedBit b x y) (λ j h. by-test (orderedBit b x y j) (λ t. absurd (f j h (bit-fits b x y j t))) (λ t. t))
-
-  -- at index 0 it fits there
-  pub ordered-zero : compareIndex words ordered x y ≡ 0 → 0 < count words → FitsAt (count words) x y 0
-  ordered-zero e h =
-      let b = count words in
-      let z : leastBelow b (orderedBit b x y) ≡ 0 = sym (ordered-is words x y hx hy) ∙ e in
-      bit-fits b x y 0 (rw z at (least-passes b (orderedBit b x y) (rw z h)))
+      let z : leastBelow b (orderedBit b x y) ≡ k = sym (ordered-is words x y hx hy) ∙ e in
+      bit-fits b x y k (rw z at (least-passes b (orderedBit b x y) (rw z h)))
 
   -- The negated equal each compare of two parts of one length finds a bit just where they differ.
   pub each-differs : compareIndex words eachNegated x y < count words → length x ≡ length y → ((i : ℕ) → i < length x → getD y i 0 ≡ getD x i 0) → ⊥

@@ -4,8 +4,8 @@ pub mod Compare
 pub mod Pieces
 pub mod Steps
 pub mod Walks
-pub mod Fronts
+pub mod Scans
 pub mod Lists
 pub mod Callers
-pub mod Loops
+pub mod Turns
 pub mod Refusals

@@ -1,117 +1,123 @@
--- `search::Cursor::step_in_bytes` meets its contract: the compare is the walk's first at this position, and its index chooses the case.
--- Assumes nothing.
-use Prim.Native.Nat.{ℕ, _+_, _-_}
-use mathlib.Core.Path.{_≡_, sym, ap, _∙_}
+-- `search::Cursor::step_in_bytes` meets its contract: the block at the text's end, or what the scan
+-- comes to. Assumes nothing.
+use Prim.Native.Nat.{ℕ, _+_, _-_, _≤_}
+use mathlib.Core.Path.{_≡_, refl, ap, _∙_}
 use mathlib.Core.Bool.{false}
+use lib.Dec.{eqb}
+use lib.ListN.{length}
 use native.Mathlib.Omega.{arith}
 use borrow.Author.Needs.{needs}
-use Rattle.search.specs.Walk.{onward}
-use Rattle.search.specs.Parts.{laterAt, stepped}
-use Rattle.blocks.proofs.Compares.{part-size}
-use Rattle.search.proofs.Steps.{first-called, first-most, step-fits, step-index, step-none}
-use Rattle.search.proofs.Loops.{rested-step}
+use Rattle.search.specs.Moves.{steppedBy}
+use Rattle.search.proofs.Scans.{Scanning, blocks-within, index-below, led-over, led-place, led-zero, past-few, past-ready, past-small}
+use Rattle.search.proofs.Turns.{led-short}
 use Rattle.search.proofs.Cursor.step_in_bytes.Statement.{statement}
 use Rattle.search.proofs.Cursor.step_in_bytes.Tie as tie
 
-add-lesser : tie.Need-add-lesser
-add-lesser c = search needs
+-- the places: what the function was handed, the scan, the cursor past its blocks
+abbrev at-entry : tie.After-scan → tie.Start
+at-entry c = c .before .before .before .before .before .before
 
-lesser-requires : tie.Need-lesser-requires
-lesser-requires c κs = search needs
+abbrev at-scan : tie.After-moved → tie.After-scan
+at-scan c = c .before .before .before
 
-sub-index : tie.Need-sub-index
-sub-index c = search needs
+scanning : (c : tie.After-scan)
+    → let a = at-entry c .args in
+    Scanning false (a .text .now) (a .needle .now) (a .first .now) (a .l) (a .self) (length (a .text .now) - (length (a .needle .now) - a .l)) (c .scan .result)
+scanning c = record { ready = at-entry c .pre; end = refl; whole = c .before .before .before .if1 .left; is = c .scan .ensures }
 
-part-index-start : tie.Need-part-index-start
-part-index-start c = search needs
-
-part-index-end : tie.Need-part-index-end
-part-index-end c = search needs
-
-index-requires : tie.Need-index-requires
-index-requires c κs =
-    let o = c .before in
-    let a = o .before .before .before .args in
-    (omega arith, rw (part-size (a .self .position) (o .lesser .result) (a .text .now) (omega arith)) (omega arith))
-
-rest-in-bytes-requires : tie.Need-rest-in-bytes-requires
-rest-in-bytes-requires c κs = search needs
-
+-- the block at the text's end
 returns : tie.Need-returns
 returns c =
-    let q = c .before .before in
-    let o = q .before .before in
-    let s = o .before .before .before in
+    let k = c .before .before .before in
+    let s = k .before .before .before .before .before .before .before in
     let a = s .args in
-    let i = q .index .ensures ∙ first-called false (a .text .now) (a .needle .now) (a .self .position) (omega arith) (omega arith) (a .l) (o .lesser .result) (a .first) (s .pre .1 .1) (o .lesser .ensures) (s .pre .1 .2) in
-    c .rest-in-bytes .ensures
-    ∙ rested-step (a .self) (laterAt false (a .text .now) (a .needle .now) (a .self .position) 16)
-    ∙ sym (ap (stepped (a .self)) (step-fits false (a .text .now) (a .needle .now) (a .self .position) (omega arith) (omega arith) (sym i ∙ c .before .if1 .taken)))
+    let by = c .before .before .lesser .ensures in
+    let r = c .stepped .ensures ∙ ap (λ (n : ℕ). steppedBy (a .self) (eqb (k .pcmpestri-0c .result) 0) n (a .self .compares + 1)) by in
+    rw r (led-short false (a .text .now) (a .needle .now) (a .first .now) (a .l) (a .self) (s .pre) _ (k .pcmpestri-0c .result) _ refl (omega arith) (k .pcmpestri-0c .ensures) (k .before .padded-bytes .ensures))
 
-sub-stepped : tie.Need-sub-stepped
-sub-stepped c = search needs
+-- the cursor past the scan's blocks
+mul-moved : tie.Need-mul-moved
+mul-moved c = omega (arith, blocks-within (scanning c), at-entry c .pre .searchable .small)
 
-add-stepped : tie.Need-add-stepped
-add-stepped c = search needs
+add-moved : tie.Need-add-moved
+add-moved c = let k = c .before in omega (arith, blocks-within (scanning k), at-entry k .pre .searchable .small)
 
-stepped-requires : tie.Need-stepped-requires
-stepped-requires c κs = search needs
+add-moved-2 : tie.Need-add-moved-2
+add-moved-2 c =
+    let k = c .before .before in
+    omega (arith, blocks-within (scanning k), at-entry k .pre .searchable .small, at-entry k .pre .few)
+
+-- index 0
+rest-in-bytes-requires : tie.Need-rest-in-bytes-requires
+rest-in-bytes-requires c κs =
+    let m = c .before .before in
+    past-ready (scanning (at-scan m)) (m .moved .result) (m .moved .ensures) (λ h. omega (arith, c .if2 .taken))
 
 returns-2 : tie.Need-returns-2
 returns-2 c =
-    let q = c .before .before .before .before in
-    let o = q .before .before in
-    let s = o .before .before .before in
-    let a = s .args in
-    let i = q .index .ensures ∙ first-called false (a .text .now) (a .needle .now) (a .self .position) (omega arith) (omega arith) (a .l) (o .lesser .result) (a .first) (s .pre .1 .1) (o .lesser .ensures) (s .pre .1 .2) in
-    let on : a .self .position + (o .lesser .result - a .self .position) ≡ o .lesser .result = omega arith in
-    c .stepped .ensures
-    ∙ ap (λ (x : ℕ). stepped (a .self) (onward x 1)) on
-    ∙ sym (ap (stepped (a .self)) (step-none false (a .text .now) (a .needle .now) (a .self .position) (omega arith) (omega arith) (o .lesser .result) (sym i ∙ c .before .before .if2 .taken) (o .lesser .ensures)))
+    let m = c .before .before .before in
+    led-zero (scanning (at-scan m)) (m .moved .result) (m .moved .ensures) (c .rest-in-bytes .result) (c .before .if2 .taken) (c .rest-in-bytes .ensures)
 
-cast-stepped : tie.Need-cast-stepped
-cast-stepped c = search needs
-
-add-stepped-2 : tie.Need-add-stepped-2
-add-stepped-2 c = search needs
-
+-- no block is left
 stepped-requires-2 : tie.Need-stepped-requires-2
 stepped-requires-2 c κs =
-    let q = c .before .before .before in
-    let o = q .before .before in
-    let s = o .before .before .before in
-    let a = s .args in
-    let i = q .index .ensures ∙ first-called false (a .text .now) (a .needle .now) (a .self .position) (omega arith) (omega arith) (a .l) (o .lesser .result) (a .first) (s .pre .1 .1) (o .lesser .ensures) (s .pre .1 .2) in
-    (omega arith, omega (arith, i, first-most false (a .text .now) (a .needle .now) (a .self .position) (omega arith) (omega arith)))
+    let m = c .before .before .before .before in
+    (past-small (scanning (at-scan m)) (m .moved .result) (m .moved .ensures), omega arith)
 
 returns-3 : tie.Need-returns-3
 returns-3 c =
-    let q = c .before .before .before .before in
-    let o = q .before .before in
-    let s = o .before .before .before in
-    let a = s .args in
-    let i = q .index .ensures ∙ first-called false (a .text .now) (a .needle .now) (a .self .position) (omega arith) (omega arith) (a .l) (o .lesser .result) (a .first) (s .pre .1 .1) (o .lesser .ensures) (s .pre .1 .2) in
-    let most = first-most false (a .text .now) (a .needle .now) (a .self .position) (omega arith) (omega arith) in
-    c .stepped2 .ensures
-    ∙ sym (ap (stepped (a .self)) (step-index false (a .text .now) (a .needle .now) (a .self .position) (omega arith) (omega arith) (q .index .result) (sym i) (omega arith) (omega arith)))
+    let m = c .before .before .before .before .before in
+    led-over (scanning (at-scan m)) (m .moved .result) (m .moved .ensures) (c .stepped2 .result) (c .before .if3 .taken) (c .stepped2 .ensures)
+
+-- an index from 1 to 16 - 1
+add-stepped-2 : tie.Need-add-stepped-2
+add-stepped-2 c =
+    let m = c .before .before .before .before .before .before in
+    omega (arith, past-few (scanning (at-scan m)) (m .moved .result) (m .moved .ensures))
+
+stepped-requires-3 : tie.Need-stepped-requires-3
+stepped-requires-3 c κs =
+    let m = c .before .before .before .before .before .before in
+    let below = index-below (scanning (at-scan m)) (m .moved .result) (m .moved .ensures) (c .before .before .if3 .left) in
+    (past-small (scanning (at-scan m)) (m .moved .result) (m .moved .ensures), omega arith)
+
+returns-4 : tie.Need-returns-4
+returns-4 c =
+    let m = c .before .before .before .before .before .before .before in
+    led-place (scanning (at-scan m)) (m .moved .result) (m .moved .ensures) (c .before .before .before .if3 .left) (c .stepped3 .result) (omega (arith, c .before .before .before .before .before .if2 .left)) (c .stepped3 .ensures)
 
 pub step-in-bytes-spec : {M : Type 1} → statement M
 step-in-bytes-spec =
     tie.close
     (tie.spec
-    add-lesser
-    lesser-requires
-    sub-index
-    part-index-start
-    part-index-end
-    index-requires
-    rest-in-bytes-requires
+    (λ c. search needs)
+    (λ c. search needs)
+    (λ c. search needs)
+    (λ c. search needs)
+    (λ c. search needs)
+    (λ c. search needs)
+    (λ c κs. search needs)
+    (λ c. search needs)
+    (λ c κs. search needs)
+    (λ c. search needs)
+    (λ c. search needs)
+    (λ c κs. search needs)
+    (λ c. search needs)
+    (λ c κs. search needs)
     returns
-    sub-stepped
-    add-stepped
-    stepped-requires
+    (λ c. search needs)
+    (λ c. search needs)
+    (λ c. search needs)
+    (λ c κs. search needs)
+    mul-moved
+    add-moved
+    add-moved-2
+    (λ c κs. search needs)
+    rest-in-bytes-requires
     returns-2
-    cast-stepped
-    add-stepped-2
     stepped-requires-2
-    returns-3)
+    returns-3
+    (λ c. search needs)
+    add-stepped-2
+    stepped-requires-3
+    returns-4)
