@@ -4,11 +4,10 @@ use mathlib.Core.Path.{_≡_, sym, ap, _∙_}
 use mathlib.Core.Bool.{Bool, true, false, cond}
 use mathlib.Core.List.{List}
 use lib.Dec.{ltb}
-use lib.ListN.{length, take, drop}
+use lib.ListN.{take, drop}
 use lib.IntN.{pos}
 use native.Mathlib.Omega.{arith}
 use borrow.Author.Count.{below-more}
-use borrow.Author.Tests.{lt-ltb, le-ltb}
 use Rattle.bits.proofs.Below.{least-at, least-none}
 use Rattle.blocks.specs.Blocks.{compareIndex, eachNegated, operandOf}
 use Rattle.blocks.proofs.Compares.{compare-called, part-size}

@@ -24,9 +24,8 @@ use Rattle.pcmpstr.specs.Compare.{override, boolRes, intRes1, intRes2}
 use Rattle.pcmpstr.specs.Output.{indexOf}
 use Rattle.pcmpstr.specs.Calls.{PCMPESTRI}
 use Rattle.pcmpstr.specs.Parts.{follows, orderedOf}
-use Rattle.scan.specs.declared.Scanned.{Scanned}
 use Rattle.scan.specs.Scan.{wholeBlocks, indexIn, scanned, firstFound, scanOf}
-use Rattle.scan.specs.Letters.{ahead, reach, unaskedIn, standsAt, startsAt, Passed}
+use Rattle.scan.specs.Letters.{ahead, unaskedIn, standsAt, startsAt, Passed}
 
 -- ---- how the scan goes on, and how it ends
 

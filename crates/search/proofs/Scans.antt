@@ -16,7 +16,7 @@ use Rattle.blocks.proofs.Compares.{part-size}
 use Rattle.pcmpstr.specs.Operand.{count}
 use Rattle.pcmpstr.specs.Calls.{PCMPESTRI}
 use Rattle.scan.specs.declared.Scanned.{Scanned}
-use Rattle.scan.specs.Scan.{indexIn, scanOf, wholeBlocks}
+use Rattle.scan.specs.Scan.{indexIn, scanOf}
 use Rattle.scan.proofs.Scans.{scan-index, scan-none, scan-passed}
 use Rattle.search.specs.declared.Cursor.{Cursor}
 use Rattle.search.specs.declared.Stepped.{Stepped}

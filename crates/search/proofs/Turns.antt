@@ -8,16 +8,13 @@ use lib.Dec.{eqb, ltb}
 use lib.ListN.{length, take, drop, length-take, length-drop}
 use lib.IntN.{pos}
 use native.Mathlib.Omega.{arith}
-use native.Mathlib.Nat.{add-zero, add-assoc}
-use native.Mathlib.Numerals.{add-one}
+use native.Mathlib.Nat.{add-zero}
 use borrow.Author.Tests.{lt-ltb, le-ltb, ne-eqb}
 use Rattle.bits.proofs.Below.{by-order}
 use Rattle.pcmpstr.specs.Operand.{count}
 use Rattle.pcmpstr.specs.Calls.{PCMPESTRI}
-use Rattle.blocks.specs.Blocks.{compareIndex, eachNegated, longestText, operandOf}
-use Rattle.blocks.proofs.Compares.{compare-called}
+use Rattle.blocks.specs.Blocks.{longestText, operandOf}
 use Rattle.search.specs.declared.Cursor.{Cursor}
-use Rattle.search.specs.declared.Next.{Next}
 use Rattle.search.specs.declared.Stepped.{Stepped}
 use Rattle.search.specs.Walk.{Later, noneDiffers, oneDiffers, more, ordered, here, onward, afterLater, step, Ended, matchAt, nowhere, plus, walk}
 use Rattle.search.specs.Cursors.{longestNeedle, mostCompares, refusal, accepted, nextMatch}

@@ -2,7 +2,6 @@
 use mathlib.Core.Path.{ap}
 use borrow.Author.Needs.{needs}
 use Rattle.search.specs.declared.Cursor.{Cursor}
-use Rattle.search.specs.declared.Stepped.{Stepped}
 use Rattle.search.proofs.Cursor.stepped.Statement.{statement}
 use Rattle.search.proofs.Cursor.stepped.Tie as tie
 
