@@ -16,7 +16,9 @@ use Rattle.search.specs.declared.Next.{Next}
 use Rattle.search.specs.declared.Next.the-variants.{Match, Absent, Refused}
 use Rattle.text.specs.declared.OrderAnswer.{OrderAnswer}
 use Rattle.text.specs.Orders.{isSecond, order, orderAnswer, orderRefusal}
-use Rattle.capi.specs.Crossing.{eflags, IndexGiven, LesserGiven, MaskGiven, NextGiven, NumberGiven, numbersOf, OrderGiven, unlessRefused}
+use Rattle.report.specs.declared.ReportAnswer.{ReportAnswer}
+use Rattle.report.specs.Report.{linesOf, refusalOf, Reported}
+use Rattle.capi.specs.Crossing.{eflags, IndexGiven, LesserGiven, MaskGiven, NextGiven, NumberGiven, numbersOf, OrderGiven, ReportGiven, unlessRefused}
 
 pub written : {A : Type 0} (number : ℕ) (new old : A) → number ≡ 0 → new ≡ unlessRefused number new old
 written number new old e = sym (ap (λ (t : Bool). cond t new old) (eq-eqb number 0 e))
@@ -86,6 +88,12 @@ lesser-written a old new e made = record { refusal = refl; which-after = made �
 
 pub lesser-kept : (a : OrderAnswer) (old : ℕ) → (a .refusal ≡ 0 → ⊥) → LesserGiven a old (a .refusal) old
 lesser-kept a old ne = record { refusal = refl; which-after = kept (a .refusal) (cond (ltZ (pos 0) (a .order)) 1 0) old ne }
+
+-- the report, from what `report` answered and the number handed on
+pub report-given : (input page page' : List ℕ) (t : ReportAnswer) (old r new : ℕ) → Reported input page page' t → NumberGiven (t .refusal) (t .written) old r new
+    → ReportGiven input page old r page' new
+report-given input page page' t old r new told given =
+    record { written-after = number-as (t .refusal) (refusalOf input) (t .written) (length (linesOf input)) old r new (told .refusal) (told .written) given; page-after = told .page }
 
 -- Where the order is not refused, the second text is the smaller just where the order is above 0.
 second-by-order : (words signed : Bool) (x y : List ℕ) (old : ℕ) (t : Bool) → eqb (orderRefusal (length x) (length y)) 0 ≡ t

@@ -3,18 +3,19 @@
 use Prim.Native.Nat.{ℕ, _+_}
 use mathlib.Core.Path.{_≡_}
 use mathlib.Core.Bool.{Bool, cond, not}
-use mathlib.Core.List.{List, [], _∷_}
+use mathlib.Core.List.{List, [], _∷_, _++_}
 use lib.Dec.{eqb}
 use lib.IntN.{ℤ, pos}
 use lib.Signed.{ltZ}
-use lib.ListN.{getD}
+use lib.ListN.{getD, length, drop}
 use Rattle.pcmpstr.specs.declared.Flags.{Flags}
 use Rattle.pcmpstr.specs.declared.IndexAnswer.{IndexAnswer}
 use Rattle.pcmpstr.specs.declared.MaskAnswer.{MaskAnswer}
 use Rattle.search.specs.declared.Cursor.{Cursor}
 use Rattle.search.specs.declared.Next.{Next}
-use Rattle.search.specs.declared.Next.the-variants.{Match, Absent, Refused}
 use Rattle.search.specs.Cursors.{cursorAt}
+use Rattle.search.specs.Calls.{Said, found, absent, refused, said, cursorOf as nextCursor}
+use Rattle.report.specs.Report.{linesOf, refusalOf as reportRefusal}
 use Rattle.text.specs.declared.OrderAnswer.{OrderAnswer}
 
 -- what stands behind a pointer after a call with this refusal: 0 writes the new value, and any other number leaves the old one
@@ -54,29 +55,32 @@ numbersOf c = c .position ∷ c .compares ∷ cond (c .exhausted) 1 0 ∷ []
 abbrev pub cursorOf : List ℕ → Cursor
 cursorOf ns = cursorAt (getD ns 0 0) (getD ns 1 0) (truth (getD ns 2 0))
 
--- what a call returns: 0 for a match, 256 for absent, which is above every refusal's number, or that number
-abbrev pub statusOf : Next → ℕ
-statusOf (Match p c) = 0
-statusOf (Absent c) = 256
-statusOf (Refused number c) = number
+-- what a call returns: 0 for a match, 256 for absent, which is above every refusal's number, or that
+-- number
+abbrev pub statusOf : Said → ℕ
+statusOf (found p) = 0
+statusOf absent = 256
+statusOf (refused number) = number
 
--- the three numbers after a call: those of the cursor to go on with, or what stood there where it was refused
-abbrev pub cursorAfter : Next → List ℕ → List ℕ
-cursorAfter (Match p c) ns = numbersOf c
-cursorAfter (Absent c) ns = numbersOf c
-cursorAfter (Refused number c) ns = ns
+-- the three numbers after a call: those of the cursor to go on with, or what stood there where it was
+-- refused
+abbrev pub cursorAfter : Said → Cursor → List ℕ → List ℕ
+cursorAfter (found p) c ns = numbersOf c
+cursorAfter absent c ns = numbersOf c
+cursorAfter (refused number) c ns = ns
 
 -- the match's position, or what stood there
-abbrev pub positionAfter : Next → ℕ → ℕ
-positionAfter (Match p c) old = p
-positionAfter (Absent c) old = old
-positionAfter (Refused number c) old = old
+abbrev pub positionAfter : Said → ℕ → ℕ
+positionAfter (found p) old = p
+positionAfter absent old = old
+positionAfter (refused number) old = old
 
--- next match: its answer, cursor and position before the call, what it returns, cursor and position after it
+-- next match: its answer, cursor and position before the call, what it returns, cursor and position
+-- after it
 pub record NextGiven (a : Next) (cursor : List ℕ) (position r : ℕ) (cursor' : List ℕ) (position' : ℕ) : Type 0 where
-  pub status : r ≡ statusOf a
-  pub cursor-after : cursor' ≡ cursorAfter a cursor
-  pub position-after : position' ≡ positionAfter a position
+  pub status : r ≡ statusOf (said a)
+  pub cursor-after : cursor' ≡ cursorAfter (said a) (nextCursor a) cursor
+  pub position-after : position' ≡ positionAfter (said a) position
 
 -- ---- runs and orders
 
@@ -94,3 +98,11 @@ pub record OrderGiven (a : OrderAnswer) (old : ℤ) (r : ℕ) (new : ℤ) : Type
 pub record LesserGiven (a : OrderAnswer) (old r new : ℕ) : Type 0 where
   pub refusal : r ≡ a .refusal
   pub which-after : new ≡ unlessRefused (a .refusal) (cond (ltZ (pos 0) (a .order)) 1 0) old
+
+-- ---- the report
+
+-- the report: its input, the page and the number that stood behind the pointer before the call; what it
+-- returns, the page and that number after it
+pub record ReportGiven (input page : List ℕ) (old r : ℕ) (page' : List ℕ) (new : ℕ) : Type 0 where
+  pub written-after : NumberGiven (reportRefusal input) (length (linesOf input)) old r new
+  pub page-after : page' ≡ linesOf input ++ drop (length (linesOf input)) page

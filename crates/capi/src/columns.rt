@@ -1,6 +1,9 @@
-// The column writer, and the report of the program `hits`.
+// The column writer, and what the program `hits` prints.
+use crate::give_number;
+ghost use mathlib.Core.Path.{_≡_};
 ghost use Rattle.decimal.specs.Decimal.{RightJustified};
-ghost use Rattle.report.specs.Report.{Put, reportOf};
+ghost use Rattle.report.specs.Report.{refusalLine};
+ghost use Rattle.capi.specs.Crossing.{ReportGiven};
 
 // A number in decimal, right-justified in a width, at the front of a buffer.
 #[no_mangle]
@@ -10,10 +13,23 @@ pub extern "C" fn hx_right_justified(number: u64, width: usize, buffer: &mut [u8
     decimal::right_justified(number, width, buffer)
 }
 
-// What the program `hits` prints for an input, and how many bytes that is.
+// The lines that the program `hits` prints for an input, and how many bytes they are.
 #[no_mangle]
-pub extern "C" fn hx_report(input: &[u8], page: &mut [u8]) -> usize
-    ensures { λ r. ⌜ Put (reportOf (now (input .entry))) (now (page .entry)) (now (page .exit)) r ⌝ }
+pub extern "C" fn hx_report(
+    input: &[u8],
+    page: &mut [u8; report::LONGEST_REPORT],
+    written: &mut usize,
+) -> u32
+    ensures { λ r. ⌜ ReportGiven (now (input .entry)) (now (page .entry)) (now (written .entry)) r (now (page .exit)) (now (written .exit)) ⌝ }
 {
-    report::report(input, page)
+    let told = report::report(input, page);
+    give_number(told.refusal, told.written, written)
+}
+
+// The line that the program prints for an input that is refused by this number.
+#[no_mangle]
+pub extern "C" fn hx_refusal_line(number: u32, line: &mut [u8; report::NUMBER_LINE])
+    ensures { λ _. ⌜ now (line .exit) ≡ refusalLine number ⌝ }
+{
+    *line = report::refusal_line(number);
 }

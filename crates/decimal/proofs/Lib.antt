@@ -2,3 +2,4 @@
 pub mod Digits
 pub mod Columns
 mod Stores
+pub mod Pages

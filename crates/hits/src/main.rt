@@ -54,11 +54,16 @@ fn write_output(bytes: &[u8]) {
     }
 }
 
-// Writes the report on an input. The page is long enough for every report.
+// Writes what the program prints for an input: its lines, or the one line of its refusal.
 fn answer(input: &[u8]) {
     let mut page = [0u8; report::LONGEST_REPORT];
-    let n = report::report(input, &mut page);
-    write_output(&page[..n]);
+    let told = report::report(input, &mut page);
+    if told.refusal > 0 {
+        let line = report::refusal_line(told.refusal);
+        write_output(&line);
+        return;
+    }
+    write_output(&page[..told.written]);
 }
 
 // A failed read ends the program with nothing written.

@@ -3,12 +3,13 @@ use Prim.Native.Nat.{ℕ, suc, _+_, _≤_, _<_}
 use mathlib.Core.Path.{_≡_}
 use mathlib.Core.Bool.{Bool, true, false, cond}
 use mathlib.Core.List.{List, [], _∷_}
-use lib.Dec.{eqb}
+use lib.Dec.{eqb, ltb}
 use lib.ListN.{length, getD, drop, drop-of-length-le}
 use lib.Seq.{drop-cons, length-take-le}
 use native.Mathlib.Omega.{arith}
 use native.Mathlib.Numerals.{add-one}
 use borrow.Author.Tests.{lt-ltb, le-ltb, eq-eqb, ne-eqb}
+use Rattle.bits.proofs.Below.{by-test}
 use Rattle.search.specs.Cursors.{longestNeedle}
 use Rattle.report.specs.Report.{feedAt, needleOf, longestInput, refusalOf}
 
@@ -58,3 +59,11 @@ pub no-refusal : (input : List ℕ) → length input ≤ longestInput → (feedA
 unfolding refusalOf
 no-refusal input h n g =
     rw (le-ltb longestInput (length input) h, ne-eqb (feedAt input) (length input) n, le-ltb longestNeedle (length (needleOf input)) (rw length-needle g))
+
+-- every refusal's number is small
+pub refusal-small : (input : List ℕ) → refusalOf input ≤ 7
+unfolding refusalOf
+refusal-small input =
+    by-test (ltb longestInput (length input)) (λ e. rw e (omega arith))
+    (λ e. rw e (by-test (eqb (feedAt input) (length input)) (λ f. rw f (omega arith))
+    (λ f. rw f (by-test (ltb longestNeedle (length (needleOf input))) (λ g. rw g (omega arith)) (λ g. rw g (omega arith))))))

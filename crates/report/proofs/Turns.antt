@@ -9,7 +9,6 @@ use lib.Seq.{take-length, getD-take, length-take-le}
 use native.Mathlib.Decide.{decLt}
 use native.Mathlib.Omega.{arith}
 use native.Mathlib.Numerals.{add-one}
-use borrow.Author.Tests.{le-ltb}
 use Rattle.search.specs.declared.Cursor.{Cursor}
 use Rattle.search.specs.declared.Next.{Next}
 use Rattle.search.specs.declared.Next.the-variants.{Match, Absent}
@@ -23,7 +22,7 @@ use Rattle.report.specs.declared.Tally.{Tally}
 use Rattle.report.specs.Report.{longestInput, numberLine, matchLines}
 use Rattle.report.specs.Parts.{afterNext, Small, withMatch, Found}
 use Rattle.report.proofs.Lines.{lines-more, length-lines}
-use Rattle.report.proofs.Pages.{line-put}
+use Rattle.decimal.proofs.Pages.{line-put}
 
 -- the cursor after k calls
 abbrev pub cursorBy : List ℕ → List ℕ → ℕ → Cursor
@@ -39,10 +38,9 @@ abbrev pub callsLeft : List ℕ → List ℕ → Bool → ℕ → ℕ
 callsLeft text needle true k = suc (length (positions text needle) - k)
 callsLeft text needle false k = 0
 
--- a page with room for all lines has those of the first k matches
+-- the page has the lines of the first k matches
 abbrev pub HasLines : List ℕ → List ℕ → List ℕ → List ℕ → ℕ → Type 0
-HasLines text needle before page k =
-    length (positions text needle) * 9 ≤ length before → page ≡ matchLines (take k (positions text needle)) ++ drop (k * 9) before
+HasLines text needle before page k = page ≡ matchLines (take k (positions text needle)) ++ drop (k * 9) before
 
 -- none at first
 pub no-lines : (before : List ℕ) → before ≡ matchLines [] ++ drop (0 * 9) before
@@ -71,12 +69,12 @@ module _ (text needle : List ℕ) (small : length text < longestInput) (short : 
       let l : length (take k ps) ≡ k = length-take-le k ps h in
       length-lines (take k ps) (λ i j. rw (getD-take k ps i 0 (omega arith)) (omega (arith, position-within text needle i (omega arith)))) ∙ ap (λ (n : ℕ). n * 9) l
 
-  one-more : (before page : List ℕ) (k : ℕ) (c : Cursor) → k < length (positions text needle) → length page ≡ length before → HasLines text needle before page k
+  one-more : (before page : List ℕ) (k : ℕ) (c : Cursor) → k < length (positions text needle) → HasLines text needle before page k
       → HasLines text needle before (withMatch (Match (getD (positions text needle) k 0) c) (k * 9) page) (k + 1)
-  one-more before page k c l same has room =
+  one-more before page k c l has =
       let ps = positions text needle in
       let n : (k + 1) * 9 ≡ k * 9 + 9 = omega arith in
-      rw (le-ltb (length page) (k * 9 + 9) (omega arith), line-put (matchLines (take k ps)) (numberLine (getD ps k 0)) before page (k * 9) 9 (length-first k (omega arith)) (has room), n, add-one)
+      rw (line-put (matchLines (take k ps)) (numberLine (getD ps k 0)) before page (k * 9) 9 (length-first k (omega arith)) has, n, add-one)
       (rw (lines-more ps k l))
 
   -- a turn: the tally t becomes `after`, the page becomes `new`
@@ -87,16 +85,15 @@ module _ (text needle : List ℕ) (small : length text < longestInput) (short : 
         × (callsLeft text needle (after .more) (after .matches) < callsLeft text needle true (t .matches))
 
     pub turned : (next : Next) (page new : List ℕ) (after : Tally) → Called text needle true (t .matches) (t .cursor)
-        → length page ≡ length before
         → HasLines text needle before page (t .matches)
         → next ≡ nextMatch false text needle (t .cursor)
         → new ≡ withMatch next (t .matches * 9) page
         → after ≡ afterNext t next
         → Turned after new
-    turned next page new after called same has answer stored told =
+    turned next page new after called has answer stored told =
         by-cases (decLt (t .matches) (length (positions text needle)))
         (λ l. by-answer (Match (getD (positions text needle) (t .matches) 0) (cursorBy text needle (suc (t .matches)))) (next-match (t .matches) (t .cursor) l (called .1))
-        ((omega arith, ap (cursorBy text needle) (sym (add-one (t .matches)))), one-more before page (t .matches) (cursorBy text needle (suc (t .matches))) l same has, omega arith))
+        ((omega arith, ap (cursorBy text needle) (sym (add-one (t .matches)))), one-more before page (t .matches) (cursorBy text needle (suc (t .matches))) l has, omega arith))
         (λ g. let e : t .matches ≡ length (positions text needle) = omega arith in
         by-answer (Absent (cursorBy text needle (suc (t .matches)))) (next-absent (t .matches) (t .cursor) e (called .1)) ((e, refl), has, omega arith))
       where
@@ -114,5 +111,5 @@ module _ (text needle : List ℕ) (small : length text < longestInput) (short : 
         compares =
             ap (λ (c : Cursor). c .compares) (called .1) ∙ calls-find-all false text needle (suc (t .matches)) (omega arith) short .counts
             ∙ ap (λ (k : ℕ). walkCount false text needle (suc k)) (called .0);
-        page = λ room. has room ∙ ap (λ (k : ℕ). matchLines (take k ps) ++ drop (k * 9) before) (called .0) ∙ rw (take-length ps);
+        page = has ∙ ap (λ (k : ℕ). matchLines (take k ps) ++ drop (k * 9) before) (called .0) ∙ rw (take-length ps);
       }

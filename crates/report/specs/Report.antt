@@ -5,11 +5,12 @@ use mathlib.Core.Path.{_≡_}
 use mathlib.Core.Bool.{cond, false}
 use mathlib.Core.List.{List, [], _∷_, _++_}
 use lib.Dec.{eqb, ltb}
-use lib.ListN.{length, take, drop}
+use lib.ListN.{length, take, drop, replicate}
 use Rattle.decimal.specs.Decimal.{column}
 use Rattle.search.specs.Positions.{positions}
 use Rattle.search.specs.Walk.{walkCount}
 use Rattle.search.specs.Cursors.{longestNeedle}
+use Rattle.report.specs.declared.ReportAnswer.{ReportAnswer}
 
 -- ---- the input
 
@@ -63,23 +64,43 @@ comparesFor text needle = walkCount false text needle (suc (length (positions te
 unfoldable pub listing : List ℕ → List ℕ → List ℕ
 listing text needle = matchLines (positions text needle) ++ totalsLine (length (positions text needle)) (comparesFor text needle)
 
--- from the refusal's number: the lines, or the number alone
-abbrev pub answer : ℕ → List ℕ → List ℕ → List ℕ
-answer zero text needle = listing text needle
-answer (suc r) text needle = numberLine (suc r)
+-- ---- what is printed
 
--- All that the program prints.
+-- The line of a refusal's number. One of more than 8 digits, which no refusal has, leaves its columns
+-- blank.
+unfoldable pub refusalLine : ℕ → List ℕ
+refusalLine n = cond (ltb n 100000000) (numberLine n) (line (replicate 8 32))
+
+-- from the refusal's number: the lines, or the number alone
+abbrev pub printed : ℕ → List ℕ → List ℕ → List ℕ
+printed zero text needle = listing text needle
+printed (suc r) text needle = numberLine (suc r)
+
+-- All that the program prints. `report` gives the lines of an input that is accepted, `refusal_line`
+-- the one line of an input that is refused (`printed-lines` and `printed-refusal` in
+-- proofs/Listings.antt).
 unfoldable pub reportOf : List ℕ → List ℕ
-reportOf input = answer (refusalOf input) (textOf input) (needleOf input)
+reportOf input = printed (refusalOf input) (textOf input) (needleOf input)
 
 -- ---- the call
 
--- Some bytes put at the front of a page, the rest of it as before: r is how many. A page too short for them all gets none, and r is 0.
-pub record Put (bytes before after : List ℕ) (r : ℕ) : Type 0 where
-  pub count : r ≡ cond (ltb (length before) (length bytes)) 0 (length bytes)
-  pub page : after ≡ cond (ltb (length before) (length bytes)) before (bytes ++ drop (length bytes) before)
+-- from the refusal's number: the lines that the call writes; refused, none
+abbrev pub linesUnless : ℕ → List ℕ → List ℕ → List ℕ
+linesUnless zero text needle = listing text needle
+linesUnless (suc r) text needle = []
 
--- The longest report: an empty needle stands at 65,536 positions of the longest text, 65,535 bytes, each in a line of 9; the totals take 19.
--- No report is longer (`report-fits` in proofs/Listings.antt).
+unfoldable pub linesOf : List ℕ → List ℕ
+linesOf input = linesUnless (refusalOf input) (textOf input) (needleOf input)
+
+-- The call: the refusal's number, or 0; and the lines at the front of the page, the rest of it as
+-- before.
+pub record Reported (input before after : List ℕ) (r : ReportAnswer) : Type 0 where
+  pub refusal : r .refusal ≡ refusalOf input
+  pub written : r .written ≡ length (linesOf input)
+  pub page : after ≡ linesOf input ++ drop (length (linesOf input)) before
+
+-- The longest report, and so the length of a page: an empty needle stands at 65,536 positions of the
+-- longest text, 65,535 bytes, each in a line of 9; the totals take 19. No report is longer
+-- (`report-fits` in proofs/Listings.antt).
 abbrev pub longestReport : ℕ
 longestReport = 589843

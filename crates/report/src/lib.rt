@@ -1,39 +1,48 @@
 // What the program `hits` prints, as a function of the bytes that it read: document 01, "The program `hits`".
 //
-// Public call: `report`. It asks nothing of its arguments. The needle is the input up to its first line feed, the text all after it; the report has a line
-// for each match and a line of totals, or the number of a refusal on a line alone.
+// Public calls: `report`, which writes a line for each match and a line of totals, and
+// `refusal_line`, the one line that is printed where `report` refuses the input. Neither asks anything
+// of its arguments. The needle is the input up to its first line feed, the text all after it.
 use search::Cursor;
 use search::Next;
 ghost use mathlib.Core.Path.{_≡_};
 ghost use mathlib.Core.Bool.{true};
 ghost use mathlib.Core.List.{_++_};
-ghost use Prim.Native.Nat.{_≤_, _<_};
-ghost use lib.Dec.{ltb};
+ghost use Prim.Native.Nat.{_+_, _≤_, _<_};
 ghost use lib.ListN.{length, drop};
-ghost use Rattle.search.specs.Cursors.{freshCursor, longestNeedle};
-ghost use Rattle.report.specs.Report.{feedAt, listing, longestInput, longestReport, numberLine, Put, reportOf, totalsLine};
-ghost use Rattle.report.specs.Parts.{afterNext, Found, Small, tallyOf, withMatch};
+ghost use Rattle.search.specs.Cursors.{freshCursor};
+ghost use Rattle.report.specs.Report.{feedAt, listing, longestInput, numberLine, refusalLine, Reported, totalsLine};
+ghost use Rattle.report.specs.Parts.{afterNext, Found, Listable, Put, refusedReport, Small, tallyOf, withMatch};
 
 // The most bytes of an input.
 pub const LONGEST_INPUT: usize = 65536;
 
-// The longest report: a line of 9 bytes for each of 65,536 matches, and the totals. A page of this length is long enough for every input.
+// The longest report: a line of 9 bytes for each of 65,536 matches, and the totals. A page has this
+// length, so that it is long enough for every input.
 pub const LONGEST_REPORT: usize = 589843;
 
-// Refusals, by the numbers of document 01: an input without a line feed, and one that is too long. A needle that is too long is refused by `search::NEEDLE_REFUSED`,
-// number 3.
+// Refusals, by the numbers of document 01: an input without a line feed, and one that is too long. A
+// needle that is too long is refused by `search::NEEDLE_REFUSED`, number 3.
 pub const FEED_REFUSED: u32 = 6;
 
 pub const INPUT_REFUSED: u32 = 7;
 
-// The columns of a match and of the totals; and the bytes of a line with one number and of the line with the totals, each with its line feed.
+// The columns of a match and of the totals; and the bytes of a line with one number and of the line
+// with the totals, each with its line feed.
 const NUMBER_WIDTH: usize = 8;
 
 const COMPARES_WIDTH: usize = 10;
 
-const NUMBER_LINE: usize = 9;
+pub const NUMBER_LINE: usize = 9;
 
 const TOTALS_LINE: usize = 19;
+
+// The answer of `report`: the number that refuses the input, or 0, and how many bytes were written at
+// the front of the page. Refused, none were.
+pub struct ReportAnswer {
+    pub refusal: u32,
+    pub written: usize,
+}
 
 // How far a list of calls has got: the matches so far, the cursor, and whether another match may follow.
 struct Tally {
@@ -113,25 +122,21 @@ fn put_totals(matches: u64, compares: u64, page: &mut [u8])
     page[NUMBER_WIDTH + COMPARES_WIDTH] = b'\n';
 }
 
-// Writes the line of a match, where there is one, at its own byte of the page, if it fits there.
+// Writes the line of a match, where there is one, at its own byte of the page.
 fn put_match(next: Next, at: usize, page: &mut [u8])
-    requires { ⌜ Small next × (at ≤ longestReport) ⌝ }
+    requires { ⌜ Small next × (at + 9 ≤ length (now page)) ⌝ }
     ensures { λ _. ⌜ now (page .exit) ≡ withMatch next at (now (page .entry)) ⌝ }
 {
     match next {
-        Next::Match(position, _) => {
-            if at + NUMBER_LINE <= page.len() {
-                put_number(position, &mut page[at..]);
-            }
-        }
+        Next::Match(position, _) => put_number(position, &mut page[at..]),
         Next::Absent(_) => {}
         Next::Refused(_, _) => {}
     }
 }
 
-// Finds every match, and writes its line into the page where there is room for it.
+// Finds every match, and writes its line into the page.
 fn put_matches(text: &[u8], needle: &[u8], page: &mut [u8]) -> Tally
-    requires { ⌜ (length (now text) < longestInput) × (length (now needle) ≤ longestNeedle) ⌝ }
+    requires { ⌜ Listable (now text) (now needle) (now page) ⌝ }
     ensures { λ r. ⌜ Found (now (text .entry)) (now (needle .entry)) (now (page .entry)) (now (page .exit)) r ⌝ }
 {
     let mut tally = Tally::begun();
@@ -144,61 +149,56 @@ fn put_matches(text: &[u8], needle: &[u8], page: &mut [u8]) -> Tally
     tally
 }
 
-// A page of this many bytes is too short for the lines of a text and a needle. The matches are counted only where the page could be too short: by the same walk, with
-// a page that no line fits.
-fn too_short(text: &[u8], needle: &[u8], room: usize) -> bool
-    requires { ⌜ (length (now text) < longestInput) × (length (now needle) ≤ longestNeedle) ⌝ }
-    ensures { λ r. ⌜ r ≡ ltb room (length (listing (now (text .entry)) (now (needle .entry)))) ⌝ }
-{
-    if room >= LONGEST_REPORT {
-        return false;
-    }
-    let mut none = [0u8; 1];
-    let tally = put_matches(text, needle, &mut none);
-    room < tally.matches * NUMBER_LINE + TOTALS_LINE
-}
-
-// Writes the lines for a text and a needle.
+// Writes the lines for a text and a needle, and answers how many bytes they are.
 fn put_listing(text: &[u8], needle: &[u8], page: &mut [u8]) -> usize
-    requires { ⌜ (length (now text) < longestInput) × (length (now needle) ≤ longestNeedle) ⌝ }
+    requires { ⌜ Listable (now text) (now needle) (now page) ⌝ }
     ensures { λ r. ⌜ Put (listing (now (text .entry)) (now (needle .entry))) (now (page .entry)) (now (page .exit)) r ⌝ }
 {
-    if too_short(text, needle, page.len()) {
-        return 0;
-    }
     let tally = put_matches(text, needle, page);
     let at = tally.matches * NUMBER_LINE;
     put_totals(tally.matches as u64, tally.cursor.compares, &mut page[at..]);
     at + TOTALS_LINE
 }
 
-// Writes the number of a refusal.
-fn put_refusal(number: u32, page: &mut [u8]) -> usize
-    requires { ⌜ number < 100000000 ⌝ }
-    ensures { λ r. ⌜ Put (numberLine number) (now (page .entry)) (now (page .exit)) r ⌝ }
+// The answer to an input that is refused by this number.
+fn refused(number: u32) -> ReportAnswer
+    ensures { λ r. ⌜ r ≡ refusedReport number ⌝ }
 {
-    if page.len() < NUMBER_LINE {
-        return 0;
+    ReportAnswer {
+        refusal: number,
+        written: 0,
     }
-    put_number(number as u64, page);
-    NUMBER_LINE
 }
 
-// Writes the report on an input at the front of the page, and answers how many bytes that is. The rest of the page stays as it was. A page that is too short for the
-// report stays whole as it was, and the answer is 0.
-pub fn report(input: &[u8], page: &mut [u8]) -> usize
-    ensures { λ r. ⌜ Put (reportOf (now (input .entry))) (now (page .entry)) (now (page .exit)) r ⌝ }
+// Writes the lines that the program prints for an input at the front of the page; the rest of the page
+// stays as it was. Refused, the whole page does.
+pub fn report(input: &[u8], page: &mut [u8; LONGEST_REPORT]) -> ReportAnswer
+    ensures { λ r. ⌜ Reported (now (input .entry)) (now (page .entry)) (now (page .exit)) r ⌝ }
 {
     let n = input.len();
     if n > LONGEST_INPUT {
-        return put_refusal(INPUT_REFUSED, page);
+        return refused(INPUT_REFUSED);
     }
     let at = feed_at(input);
     if at == n {
-        return put_refusal(FEED_REFUSED, page);
+        return refused(FEED_REFUSED);
     }
     if at > search::LONGEST_NEEDLE {
-        return put_refusal(search::NEEDLE_REFUSED, page);
+        return refused(search::NEEDLE_REFUSED);
     }
-    put_listing(&input[at + 1..], &input[..at], page)
+    ReportAnswer {
+        refusal: 0,
+        written: put_listing(&input[at + 1..], &input[..at], page),
+    }
+}
+
+// The line that the program prints for an input that is refused by this number. A number of more than
+// 8 digits, which no refusal has, leaves its columns blank.
+pub fn refusal_line(number: u32) -> [u8; NUMBER_LINE]
+    ensures { λ r. ⌜ r ≡ refusalLine number ⌝ }
+{
+    let mut line = [b' '; NUMBER_LINE];
+    decimal::right_justified(number as u64, NUMBER_WIDTH, &mut line);
+    line[NUMBER_WIDTH] = b'\n';
+    line
 }

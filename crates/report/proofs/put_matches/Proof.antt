@@ -1,5 +1,6 @@
--- `report::put_matches` meets its contract. The invariant: the cursor is the one after as many calls as there are matches so far, and one more where absent was said; and
--- a page with room for all lines has those of the matches so far. A turn is `turned`, the end `found-all`. Assumes nothing.
+-- `report::put_matches` meets its contract. The invariant: the cursor is the one after as many calls
+-- as there are matches so far, and one more where absent was said; and the page has the lines of the
+-- matches so far. A turn is `turned`, the end `found-all`. Assumes nothing.
 use Prim.Native.Nat.{_≤_, _<_}
 use mathlib.Core.Path.{_≡_, refl, sym, subst, _∙_}
 use mathlib.Core.Bool.{Bool, true}
@@ -25,7 +26,7 @@ loop-holds : tie.Need-loop-holds Inv-loop μ-loop
 loop-holds c =
     let a = c .before .before .before .before .args in
     subst (λ (t : Tally). Called (a .text .now) (a .needle .now) (t .more) (t .matches) (t .cursor) × (length (a .page .now) ≡ length (a .page .now)) × HasLines (a .text .now) (a .needle .now) (a .page .now) (a .page .now) (t .matches))
-    (sym (c .begun .ensures)) ((omega arith, refl), refl, λ room. no-lines (a .page .now))
+    (sym (c .begun .ensures)) ((omega arith, refl), refl, no-lines (a .page .now))
 
 -- in a turn the list of calls is not at its end
 called : (c : tie.In-loop Inv-loop μ-loop)
@@ -51,9 +52,9 @@ put-match-requires c κs =
     let l = c .before .before .before .before in
     let s = l .before .before .before .before .before .before in
     let t = l .before .loop .tally in (
-      next-small (s .args .text .now) (s .args .needle .now) (s .pre .0) (s .pre .1) (t .matches) (t .cursor) (c .before .before .next-in-bytes .result) (called l .0) (called l .1)
+      next-small (s .args .text .now) (s .args .needle .now) (s .pre .small) (s .pre .short) (t .matches) (t .cursor) (c .before .before .next-in-bytes .result) (called l .0) (called l .1)
           (c .before .before .next-in-bytes .ensures),
-      omega (arith, few l),
+      omega (arith, few l, l .before .loop .inv .1, s .pre .room),
     )
 
 after-requires : tie.Need-after-requires Inv-loop μ-loop
@@ -67,7 +68,7 @@ abbrev Turn : (c : tie.After-after Inv-loop μ-loop) → Type 0
 Turn c =
     let s = begin c .before .before .before .before .before .before in
     let a = s .args in
-    Turned (a .text .now) (a .needle .now) (s .pre .0) (s .pre .1) (begin c .before .loop .tally) (a .page .now) (c .after .result) (c .before .before .before .put-match .last .1 .1 .0)
+    Turned (a .text .now) (a .needle .now) (s .pre .small) (s .pre .short) (begin c .before .loop .tally) (a .page .now) (c .after .result) (c .before .before .before .put-match .last .1 .1 .0)
 
 turn : (c : tie.After-after Inv-loop μ-loop) → Turn c
 turn c =
@@ -75,8 +76,8 @@ turn c =
     let s = l .before .before .before .before .before .before in
     let a = s .args in
     let next = c .before .before .before .before .before .before .next-in-bytes in
-    turned (a .text .now) (a .needle .now) (s .pre .0) (s .pre .1) (l .before .loop .tally) (a .page .now) (next .result) (l .before .loop .page)
-    (c .before .before .before .put-match .last .1 .1 .0) (c .after .result) (called l) (l .before .loop .inv .1) (l .before .loop .inv .2) (next .ensures)
+    turned (a .text .now) (a .needle .now) (s .pre .small) (s .pre .short) (l .before .loop .tally) (a .page .now) (next .result) (l .before .loop .page)
+    (c .before .before .before .put-match .last .1 .1 .0) (c .after .result) (called l) (l .before .loop .inv .2) (next .ensures)
     (c .before .before .before .put-match .ensures) (c .after .ensures)
 
 loop-less : tie.Need-loop-less Inv-loop μ-loop
@@ -99,7 +100,7 @@ returns c =
     let s = l .before .before .before .before .before in
     let a = s .args in
     let t = l .loop .tally in
-    found-all (a .text .now) (a .needle .now) (s .pre .0) (s .pre .1) t (a .page .now) (l .loop .page)
+    found-all (a .text .now) (a .needle .now) (s .pre .small) (s .pre .short) t (a .page .now) (l .loop .page)
     (subst (λ (b : Bool). Called (a .text .now) (a .needle .now) b (t .matches) (t .cursor)) (c .loop-test .left) (l .loop .inv .0)) (l .loop .inv .2)
 
 pub put-matches-spec : {M : Type 1} → statement M

@@ -5,7 +5,8 @@ use borrow.Author.Needs.{needs}
 use lib.ListN.{length}
 use Rattle.report.specs.Report.{totalsLine}
 use Rattle.report.proofs.Lines.{length-totals}
-use Rattle.report.proofs.Pages.{totals-put, length-kept}
+use Rattle.decimal.proofs.Pages.{length-kept}
+use Rattle.report.proofs.Pages.{totals-put}
 use Rattle.report.proofs.put_totals.Statement.{statement}
 use Rattle.report.proofs.put_totals.Tie as tie
 

@@ -1,135 +1,94 @@
--- `report::report` meets its contract: its tests are those of the definition, in the definition's order. Assumes nothing.
-use Prim.Native.Nat.{ℕ, suc, _+_, _≤_}
-use mathlib.Core.Path.{_≡_, sym, subst, _∙_}
-use mathlib.Core.List.{List}
+-- `report::report` meets its contract: its tests are those of the definition, in the definition's
+-- order. Assumes nothing.
+use Prim.Native.Nat.{_+_, _≤_}
+use mathlib.Core.Path.{_≡_, refl, sym, _∙_}
+use mathlib.Core.Logic.{by-cases}
+use native.Mathlib.Decide.{ℕ-discrete}
 use native.Mathlib.Omega.{arith}
 use lib.ListN.{length, length-drop}
 use lib.Seq.{length-take-le}
-use mathlib.Core.Logic.{by-cases}
-use native.Mathlib.Decide.{ℕ-discrete}
 use borrow.Author.Needs.{needs}
-use Rattle.report.specs.Report.{feedAt, refusalOf, numberLine, reportOf, Put}
+use Rattle.decimal.proofs.Pages.{tail}
+use Rattle.report.specs.Report.{feedAt}
 use Rattle.report.proofs.Inputs.{feed-within, too-long, no-feed, long-needle, no-refusal}
-use Rattle.report.proofs.Pages.{tail}
-use Rattle.report.proofs.Listings.{report-refused, report-parts}
+use Rattle.report.proofs.Listings.{refused-so, listed-so}
 use Rattle.report.proofs.report.Statement.{statement}
 use Rattle.report.proofs.report.Tie as tie
 
--- a refusal's line is the report, where the definition gives its number
-refused : (input before after : List ℕ) (n r : ℕ) → refusalOf input ≡ suc n → Put (numberLine (suc n)) before after r → Put (reportOf input) before after r
-refused input before after n r e p = subst (λ (l : List ℕ). Put l before after r) (sym (report-refused input n e)) p
+abbrev start : tie.After-feed-at → tie.Start
+start c = c .before .before .before
 
-put-refusal-requires : tie.Need-put-refusal-requires
-put-refusal-requires c κs = search needs
+feed : (c : tie.After-feed-at) → c .feed-at .result ≡ feedAt (start c .args .input .now)
+feed c = c .feed-at .ensures
 
-same-length : tie.Need-same-length
-same-length c = search needs
+some-feed : (c : tie.Else2) → feedAt (start (c .before) .args .input .now) ≡ length (start (c .before) .args .input .now) → ⊥
+some-feed c e = c .if2 .left (feed (c .before) ∙ e)
+
+-- ---- refused
 
 returns : tie.Need-returns
 returns c =
-    let a = c .before .before .before .before .before .before .before .args in
-    refused (a .input .now) (a .page .now) (c .before .before .put-refusal .last .1 .0) 6 (c .before .before .put-refusal .result) (too-long (a .input .now) (omega arith))
-    (c .before .before .put-refusal .ensures)
-
-feed-at-requires : tie.Need-feed-at-requires
-feed-at-requires c κs = search needs
-
-put-refusal-requires-2 : tie.Need-put-refusal-requires-2
-put-refusal-requires-2 c κs = search needs
-
-same-length-2 : tie.Need-same-length-2
-same-length-2 c = search needs
+    let a = c .before .before .before .args in
+    refused-so (a .input .now) (a .page .now) 6 (c .refused .result) (too-long (a .input .now) (omega arith)) (c .refused .ensures)
 
 returns-2 : tie.Need-returns-2
 returns-2 c =
-    let f = c .before .before .before .before .before in
-    let a = f .before .before .before .before .args in
-    refused (a .input .now) (a .page .now) (c .before .before .put-refusal2 .last .1 .0) 5 (c .before .before .put-refusal2 .result)
-    (no-feed (a .input .now) (omega arith) (sym (f .feed-at .ensures) ∙ c .before .before .before .before .if2 .taken)) (c .before .before .put-refusal2 .ensures)
-
-put-refusal-requires-3 : tie.Need-put-refusal-requires-3
-put-refusal-requires-3 c κs = search needs
-
-same-length-3 : tie.Need-same-length-3
-same-length-3 c = search needs
+    let f = c .before .before in
+    let a = start f .args in
+    refused-so (a .input .now) (a .page .now) 5 (c .refused2 .result) (no-feed (a .input .now) (omega arith) (sym (feed f) ∙ c .before .if2 .taken)) (c .refused2 .ensures)
 
 returns-3 : tie.Need-returns-3
 returns-3 c =
-    let f = c .before .before .before .before .before .before in
-    let a = f .before .before .before .before .args in
-    refused (a .input .now) (a .page .now) (c .before .before .put-refusal3 .last .1 .0) 2 (c .before .before .put-refusal3 .result)
-    (long-needle (a .input .now) (omega arith) (λ e. c .before .before .before .before .before .if2 .left (f .feed-at .ensures ∙ e)) (omega (arith, f .feed-at .ensures)))
-    (c .before .before .put-refusal3 .ensures)
+    let e = c .before .before in
+    let a = start (e .before) .args in
+    refused-so (a .input .now) (a .page .now) 2 (c .refused3 .result) (long-needle (a .input .now) (omega arith) (some-feed e) (omega (arith, feed (e .before)))) (c .refused3 .ensures)
 
 -- ---- an input that is accepted
 
-abbrev start : tie.Else3 → tie.Start
-start c = c .before .before .before .before .before .before
-
-feed : (c : tie.Else3) → c .before .before .feed-at .result ≡ feedAt (start c .args .input .now)
-feed c = c .before .before .feed-at .ensures
-
-some-feed : (c : tie.Else3) → feedAt (start c .args .input .now) ≡ length (start c .args .input .now) → ⊥
-some-feed c e = c .before .if2 .left (feed c ∙ e)
-
-add-put-listing : tie.Need-add-put-listing
-add-put-listing c = search needs
-
-within : (c : tie.Else3) → c .before .before .feed-at .result + 1 ≤ length (start c .args .input .now)
-within c = by-cases (ℕ-discrete (feedAt (start c .args .input .now)) (length (start c .args .input .now))) (λ e. absurd (some-feed c e)) (λ n. omega (arith, feed c, feed-within (start c .args .input .now)))
-
-sub-put-listing : tie.Need-sub-put-listing
-sub-put-listing c = within c
-
-part-put-listing-start : tie.Need-part-put-listing-start
-part-put-listing-start c = within c
-
-part-put-listing-end : tie.Need-part-put-listing-end
-part-put-listing-end c = search needs
+within : (c : tie.Else2) → c .before .feed-at .result + 1 ≤ length (start (c .before) .args .input .now)
+within c =
+    let input = start (c .before) .args .input .now in
+    by-cases (ℕ-discrete (feedAt input) (length input)) (λ e. absurd (some-feed c e)) (λ n. omega (arith, feed (c .before), feed-within input))
 
 slice-aggregate-put-listing : tie.Need-slice-aggregate-put-listing
 slice-aggregate-put-listing c =
-    let e = c .before .before in
-    sym (length-take-le (e .before .before .feed-at .result) (start e .args .input .now) (omega (arith, within e)))
+    let e = c .before .before .before in
+    sym (length-take-le (e .before .feed-at .result) (start (e .before) .args .input .now) (omega (arith, within e)))
 
 put-listing-requires : tie.Need-put-listing-requires
 put-listing-requires c κs =
-    let e = c .before .before .before in
-    let input = start e .args .input .now in
-    let at = e .before .before .feed-at .result in
-    (rw (tail input (at + 1), length-drop) (omega (arith, within e)), rw (length-take-le at input (omega (arith, within e))) (omega arith))
-
-same-length-4 : tie.Need-same-length-4
-same-length-4 c = search needs
+    let e = c .before .before .before .before in
+    let input = start (e .before) .args .input .now in
+    let at = e .before .feed-at .result in
+    record {
+      small = rw (tail input (at + 1), length-drop) (omega (arith, within e));
+      short = rw (length-take-le at input (omega (arith, within e))) (omega arith);
+      room = search needs;
+    }
 
 returns-4 : tie.Need-returns-4
 returns-4 c =
-    let e = c .before .before .before .before .before .before in
-    let a = start e .args in
-    let input = a .input .now in
-    let at = e .before .before .feed-at .result in
-    let listed = report-parts input at (feed e) (no-refusal input (omega arith) (some-feed e) (omega (arith, feed e))) in
-    subst (λ (l : List ℕ). Put l (a .page .now) (c .before .before .put-listing .last .1 .1 .0) (c .before .before .put-listing .result)) listed (c .before .before .put-listing .ensures)
+    let e = c .before .before .before .before .before in
+    let f = e .before in
+    let a = start f .args in
+    listed-so (a .input .now) (a .page .now) (c .put-listing .last .1 .1 .0) (f .feed-at .result) (record { refusal = 0; written = c .put-listing .result }) (feed f)
+    (no-refusal (a .input .now) (omega arith) (some-feed e) (omega (arith, feed f))) refl (c .put-listing .ensures)
 
 pub report-spec : {M : Type 1} → statement M
 report-spec =
     tie.close
     (tie.spec
-    put-refusal-requires
-    same-length
+    (λ c κs. search needs)
     returns
-    feed-at-requires
-    put-refusal-requires-2
-    same-length-2
+    (λ c κs. search needs)
+    (λ c κs. search needs)
     returns-2
-    put-refusal-requires-3
-    same-length-3
+    (λ c κs. search needs)
     returns-3
-    add-put-listing
-    sub-put-listing
-    part-put-listing-start
-    part-put-listing-end
+    (λ c. search needs)
+    (λ c. within (c .before))
+    (λ c. within (c .before))
+    (λ c. search needs)
     slice-aggregate-put-listing
     put-listing-requires
-    same-length-4
     returns-4)

@@ -10,7 +10,7 @@ use Rattle.capi.proofs.spans.hx_range_span_in_words.Statement.{statemen
 use Rattle.capi.proofs.spans.hx_range_span_in_words.Tie as tie
 use Rattle.capi.proofs.spans.hx_range_span_in_words.Reads as reads
 use Rattle.capi.proofs.spans.hx_range_span_in_words.Lts as lts
-use Rattle.capi.proofs.spans.give_length.Reads as give-length-reads
+use Rattle.capi.proofs.give_number.Reads as give-number-reads
 use Rattle.capi.proofs.truth.Reads as truth-reads
 use Rattle.text.proofs.words.range_span.Reads as range-span-reads
 use Rattle.text.proofs.words.range_span_refusal.Reads as range-span-refusal-reads
@@ -27,8 +27,8 @@ truth-requires-2 c κs = search needs
 range-span-refusal-requires : tie.Need-range-span-refusal-requires
 range-span-refusal-requires c κs = search needs
 
-give-length-requires : tie.Need-give-length-requires
-give-length-requires c κs = search needs
+give-number-requires : tie.Need-give-number-requires
+give-number-requires c κs = search needs
 
 returns : tie.Need-returns
 returns c =
@@ -36,8 +36,8 @@ returns c =
     let number = c .before .before .range-span-refusal in
     let part = c .before .before .before .before .range-span in
     let signed = ap (λ (t : Bool). rangeSpan true t (a .text .now) (a .bounds .now)) (c .before .before .before .before .before .truth .ensures) in
-    number-as (number .result) (boundsRefusal true (length (a .text .now)) (length (a .bounds .now))) (length (part .result .now)) (length (rangeSpan true (truth (a .signed)) (a .text .now) (a .bounds .now))) (a .span .now) (c .give-length .result) (c .give-length .last .1 .1 .0)
-    (number .ensures) (ap length (part .ensures .1 ∙ signed)) (c .give-length .ensures)
+    number-as (number .result) (boundsRefusal true (length (a .text .now)) (length (a .bounds .now))) (length (part .result .now)) (length (rangeSpan true (truth (a .signed)) (a .text .now) (a .bounds .now))) (a .span .now) (c .give-number .result) (c .give-number .last .1 .1 .0)
+    (number .ensures) (ap length (part .ensures .1 ∙ signed)) (c .give-number .ensures)
 
 pub hx-range-span-in-words-spec : {M : Type 1} → statement M
 hx-range-span-in-words-spec =
@@ -47,5 +47,5 @@ hx-range-span-in-words-spec =
     range-span-requires
     truth-requires-2
     range-span-refusal-requires
-    give-length-requires
+    give-number-requires
     returns)
