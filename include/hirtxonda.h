@@ -6,8 +6,8 @@
  *
  * What is the same for all calls:
  *
- * - A call returns a number: 0 where it is accepted, else the number of the refusal (HX_..._REFUSED below, docs/REFUSALS.md). Where several apply the lowest is given. Only
- *   hx_pcmpestri_0c and its three siblings, which refuse nothing, and hx_report return something else.
+ * - A call returns a number: 0 where it is accepted, else the number of the refusal (HX_..._REFUSED below, docs/REFUSALS.md). Where several apply the lowest is given, but
+ *   for hx_report, which tests 7, 6, 3. Only hx_pcmpestri_0c and its three siblings, which refuse nothing, return something else.
  * - A refused call writes nothing: what stood behind each pointer still stands there.
  * - The caller owns everything. The library keeps no pointer after a call, and frees nothing.
  * - A pointer must not be null, also where its length is 0, and must be aligned for its type. A length is in elements: bytes, or words of 16 bits.
@@ -32,8 +32,8 @@ extern "C" {
 #define HX_NEEDLE_REFUSED 3u     /* a needle above 1,024 elements */
 #define HX_LIST_REFUSED 4u       /* a set or a list of bounds above 16 bytes or 8 words */
 #define HX_ODD_REFUSED 5u        /* a list of bounds with an odd count */
-#define HX_FEED_REFUSED 6u       /* a report's input without a line feed; it stands in the report, no call returns it */
-#define HX_INPUT_REFUSED 7u      /* a report's input above 65,536 bytes; the same */
+#define HX_FEED_REFUSED 6u       /* a report's input without a line feed */
+#define HX_INPUT_REFUSED 7u      /* a report's input above 65,536 bytes */
 #define HX_WIDTH_REFUSED 8u      /* a column's width of 0 or above 20, or more digits than the width */
 #define HX_EXHAUSTED_REFUSED 21u /* the cursor is exhausted */
 #define HX_POSITION_REFUSED 22u  /* the cursor's position is above the text's length + 1 */
@@ -49,7 +49,8 @@ extern "C" {
 #define HX_LONGEST_LIST_IN_WORDS 8u
 #define HX_WIDEST_COLUMN 20u
 #define HX_LONGEST_INPUT 65536u
-#define HX_LONGEST_REPORT 589843u /* a page of this many bytes is long enough for the report of every input */
+#define HX_LONGEST_REPORT 589843u /* the bytes of a page: long enough for the report of every input */
+#define HX_NUMBER_LINE 9u         /* the bytes of a line with one number, its line feed among them */
 
 /* ---- the string compare unit ----
  *
@@ -144,10 +145,13 @@ uint32_t hx_lesser_in_words(const uint16_t *first, size_t first_length, const ui
  * Refused: HX_WIDTH_REFUSED, HX_BUFFER_REFUSED. */
 uint32_t hx_right_justified(uint64_t number, size_t width, uint8_t *buffer, size_t buffer_length);
 
-/* Writes to the page what the program `hits` prints for the input (needle, line feed, text), and returns how many bytes that is; the bytes after them stay. An input that
- * `hits` refuses has a report of one line with the number. Returns 0, and writes nothing, where the page is too short for the report; no report is longer than
- * HX_LONGEST_REPORT. */
-size_t hx_report(const uint8_t *input, size_t input_length, uint8_t *page, size_t page_length);
+/* The lines that the program `hits` prints for the input (needle, line feed, text), at the front of the page; *written is how many bytes they are, and the bytes of the page
+ * after them stay. Refused, in this order: HX_INPUT_REFUSED, HX_FEED_REFUSED, HX_NEEDLE_REFUSED. */
+uint32_t hx_report(const uint8_t *input, size_t input_length, uint8_t page[HX_LONGEST_REPORT], size_t *written);
+
+/* The line that the program `hits` prints for an input that is refused by this number: the number in 8 columns, and a line feed. A number of more than 8 digits, which no
+ * refusal has, leaves its columns blank. */
+void hx_refusal_line(uint32_t number, uint8_t line[HX_NUMBER_LINE]);
 
 #ifdef __cplusplus
 }

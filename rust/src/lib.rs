@@ -39,7 +39,7 @@ mod raw;
 pub mod silicon;
 
 pub use refusal::Refusal;
-pub use report::{report, report_into, right_justified, LONGEST_INPUT, LONGEST_REPORT, WIDEST_COLUMN};
+pub use report::{refusal_line, report, report_into, right_justified, LONGEST_INPUT, LONGEST_REPORT, WIDEST_COLUMN};
 pub use search::{matches, Cursor, Matches, Next, LONGEST_NEEDLE, MOST_COMPARES};
 pub use text::{compare, lesser, range_span, span, Element, Signedness, LONGEST_TEXT};
 pub use unit::{

@@ -1,4 +1,4 @@
-//! Decimal columns, and the report that the program `hits` prints.
+//! Decimal columns, and what the program `hits` prints.
 
 use crate::{raw, Refusal};
 
@@ -16,20 +16,20 @@ pub const WIDEST_COLUMN: usize = 20;
 /// The most bytes of a report's input.
 ///
 /// ```
-/// use hirtxonda::{report, LONGEST_INPUT};
+/// use hirtxonda::{report, Refusal, LONGEST_INPUT};
 ///
-/// // An input above it has a report of one line, the refusal's number.
-/// assert_eq!(report(&[b'\n'; LONGEST_INPUT + 1]), b"       7\n");
+/// assert_eq!(report(&[b'\n'; LONGEST_INPUT + 1]), Err(Refusal::Input));
 /// ```
 pub const LONGEST_INPUT: usize = 65_536;
 
-/// The bytes of the longest report: a page of this many is long enough for every input.
+/// The bytes of the longest report, and so of a page: it is long enough for every input.
 ///
 /// ```
 /// use hirtxonda::{report, LONGEST_INPUT, LONGEST_REPORT};
 ///
 /// // An empty needle stands at every position of the longest text, and after it.
-/// assert_eq!(report(&[b'\n'; LONGEST_INPUT]).len(), LONGEST_REPORT);
+/// assert_eq!(report(&[b'\n'; LONGEST_INPUT])?.len(), LONGEST_REPORT);
+/// # Ok::<(), hirtxonda::Refusal>(())
 /// ```
 pub const LONGEST_REPORT: usize = 589_843;
 
@@ -50,33 +50,58 @@ pub fn right_justified(number: u64, width: usize, buffer: &mut [u8]) -> Result<(
     Refusal::check(unsafe { raw::hx_right_justified(number, width, buffer.as_mut_ptr(), buffer.len()) })
 }
 
-/// What the program `hits` prints for the input: the needle up to the first line feed, the text all after it. An input that `hits` refuses has
-/// a report of one line with the number.
+/// The lines that the program `hits` prints for the input: the needle up to the first line feed, the text all after it.
+/// For an input that is refused it prints a [`refusal_line`].
 ///
 /// ```
-/// assert_eq!(hirtxonda::report(b"AB\nABZAB"), b"       0\n       3\n       2         3\n");
+/// use hirtxonda::{report, Refusal};
+///
+/// assert_eq!(report(b"AB\nABZAB")?, b"       0\n       3\n       2         3\n");
+/// assert_eq!(report(b"no line feed"), Err(Refusal::Feed));
+/// # Ok::<(), hirtxonda::Refusal>(())
 /// ```
-pub fn report(input: &[u8]) -> Vec<u8> {
+///
+/// # Errors
+///
+/// [`Refusal::Input`], [`Refusal::Feed`], [`Refusal::Needle`], in this order.
+pub fn report(input: &[u8]) -> Result<Vec<u8>, Refusal> {
     let mut page = vec![0; LONGEST_REPORT];
-    let length = report_into(input, &mut page).expect("the page is long enough for every report");
-    page.truncate(length);
+    let whole: &mut [u8; LONGEST_REPORT] = page.as_mut_slice().try_into().expect("the page has that many bytes");
+    let written = report_into(input, whole)?;
+    page.truncate(written);
     page.shrink_to_fit();
-    page
+    Ok(page)
 }
 
-/// Writes the [`report`] at the front of the page, and gives how many bytes it has; the bytes after them stay. Where the page is too short,
-/// gives `None` and leaves it as it was.
+/// Writes the [`report`] at the front of the page, and gives how many bytes it has; the bytes after them stay. Refused,
+/// the whole page does.
 ///
 /// ```
-/// let mut page = [b'?'; 12];
-/// assert_eq!(hirtxonda::report_into(b"no line feed", &mut page), Some(9));
-/// assert_eq!(&page, b"       6\n???");
-/// assert_eq!(hirtxonda::report_into(b"no line feed", &mut page[..8]), None);
+/// let mut page = [b'?'; hirtxonda::LONGEST_REPORT];
+/// assert_eq!(hirtxonda::report_into(b"A\n", &mut page), Ok(19));
+/// assert_eq!(&page[..21], b"       0         0\n??");
 /// ```
-pub fn report_into(input: &[u8], page: &mut [u8]) -> Option<usize> {
-    // SAFETY: two slices with their lengths; the one that is written is lent alone.
-    match unsafe { raw::hx_report(input.as_ptr(), input.len(), page.as_mut_ptr(), page.len()) } {
-        0 => None,
-        length => Some(length),
-    }
+///
+/// # Errors
+///
+/// [`Refusal::Input`], [`Refusal::Feed`], [`Refusal::Needle`], in this order.
+pub fn report_into(input: &[u8], page: &mut [u8; LONGEST_REPORT]) -> Result<usize, Refusal> {
+    let mut written = 0;
+    // SAFETY: a slice with its length, and a page of the length that the call asks for; what is written is lent alone.
+    Refusal::check(unsafe { raw::hx_report(input.as_ptr(), input.len(), page.as_mut_ptr(), &mut written) })?;
+    Ok(written)
+}
+
+/// The line that the program `hits` prints for an input that is refused.
+///
+/// ```
+/// use hirtxonda::{refusal_line, Refusal};
+///
+/// assert_eq!(&refusal_line(Refusal::Feed), b"       6\n");
+/// ```
+pub fn refusal_line(refusal: Refusal) -> [u8; 9] {
+    let mut line = [0; 9];
+    // SAFETY: nine bytes, lent alone.
+    unsafe { raw::hx_refusal_line(refusal.number(), line.as_mut_ptr()) };
+    line
 }

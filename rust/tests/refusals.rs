@@ -7,7 +7,8 @@ mod raw;
 
 use common::search_refusal;
 use hirtxonda::{
-    pcmpestri, pcmpestrm, pcmpistri, pcmpistrm, Cursor, Element, Refusal, LONGEST_NEEDLE, LONGEST_TEXT, MOST_COMPARES,
+    pcmpestri, pcmpestrm, pcmpistri, pcmpistrm, Cursor, Element, Refusal, LONGEST_NEEDLE, LONGEST_REPORT, LONGEST_TEXT,
+    MOST_COMPARES,
 };
 use raw::*;
 
@@ -229,9 +230,9 @@ fn refused_lengths_are_not_read() {
             assert_eq!(written(7, |p| hx_range_span_in_bytes(byte.as_ptr(), 1, byte.as_ptr(), huge, 1, p)).0, 4);
             assert_eq!(written(7, |p| hx_compare_in_words(word.as_ptr(), 1, word.as_ptr(), huge, 1, p)).0, 2);
             assert_eq!(written(7, |p| hx_lesser_in_bytes(byte.as_ptr(), huge, byte.as_ptr(), 1, 0, p)).0, 2);
-            let mut page = [BYTE; 16];
-            assert_eq!(hx_report(byte.as_ptr(), huge, page.as_mut_ptr(), 16), 9);
-            assert_eq!(&page, b"       7\n\xa5\xa5\xa5\xa5\xa5\xa5\xa5");
+            let mut page = vec![BYTE; LONGEST_REPORT];
+            assert_eq!(written(7, |p| hx_report(byte.as_ptr(), huge, page.as_mut_ptr(), p)).0, 7);
+            assert!(page.iter().all(|&byte| byte == BYTE));
         }
     }
 }

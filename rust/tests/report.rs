@@ -3,7 +3,9 @@
 mod common;
 
 use common::{list_compares, positions, text, Random, ALPHABETS};
-use hirtxonda::{report, report_into, right_justified, Refusal, LONGEST_INPUT, LONGEST_NEEDLE, LONGEST_REPORT};
+use hirtxonda::{
+    refusal_line, report, report_into, right_justified, Refusal, LONGEST_INPUT, LONGEST_NEEDLE, LONGEST_REPORT,
+};
 
 fn check_column(number: u64, width: usize, room: usize) {
     let before: Vec<u8> = (0..room).map(|at| 0x80 | at as u8).collect();
@@ -43,42 +45,40 @@ fn columns() {
     }
 }
 
-/// What `hits` prints.
-fn expected(input: &[u8]) -> Vec<u8> {
-    let feed = input.iter().position(|&byte| byte == b'\n');
-    let lines = match feed {
-        _ if input.len() > LONGEST_INPUT => format!("{:8}\n", 7),
-        None => format!("{:8}\n", 6),
-        Some(feed) if feed > LONGEST_NEEDLE => format!("{:8}\n", 3),
-        Some(feed) => {
-            let (needle, text) = (&input[..feed], &input[feed + 1..]);
-            let found = positions(text, needle);
-            let lines: String = found.iter().map(|position| format!("{position:8}\n")).collect();
-            format!("{lines}{:8}{:10}\n", found.len(), list_compares(text, needle))
-        }
-    };
-    lines.into_bytes()
+/// The lines that `hits` prints, or the number that refuses the input.
+fn expected(input: &[u8]) -> Result<Vec<u8>, Refusal> {
+    if input.len() > LONGEST_INPUT {
+        return Err(Refusal::Input);
+    }
+    let feed = input.iter().position(|&byte| byte == b'\n').ok_or(Refusal::Feed)?;
+    if feed > LONGEST_NEEDLE {
+        return Err(Refusal::Needle);
+    }
+    let (needle, text) = (&input[..feed], &input[feed + 1..]);
+    let found = positions(text, needle);
+    let lines: String = found.iter().map(|position| format!("{position:8}\n")).collect();
+    Ok(format!("{lines}{:8}{:10}\n", found.len(), list_compares(text, needle)).into_bytes())
 }
 
-/// The report, and that it fits a page of just its length and no shorter one.
-fn check_report(input: &[u8]) {
+/// The report, and that the rest of the page stays; refused, all of it. The page is what earlier reports left.
+fn check_report(input: &[u8], page: &mut [u8; LONGEST_REPORT]) {
     let expected = expected(input);
-    assert!(report(input) == expected, "report of {:02x?}", &input[..input.len().min(100)]);
-    for room in [0, 1, expected.len() - 1] {
-        let mut page = vec![0x80; room];
-        assert_eq!(report_into(input, &mut page), None);
-        assert!(page.iter().all(|&byte| byte == 0x80), "a page too short is as it was");
-    }
-    for more in [0, 1, 50] {
-        let mut page = vec![0x80; expected.len() + more];
-        assert_eq!(report_into(input, &mut page), Some(expected.len()));
-        assert!(page.starts_with(&expected) && page[expected.len()..] == vec![0x80; more]);
-    }
+    let lines = expected.as_deref().unwrap_or(&[]);
+    let after: Vec<u8> = page[lines.len()..].iter().take(5000).copied().collect();
+    let told = report_into(input, page);
+    assert_eq!(told, expected.as_ref().map(Vec::len).map_err(|&refusal| refusal));
+    assert!(page.starts_with(lines), "report of {:02x?}", &input[..input.len().min(100)]);
+    assert!(page[lines.len()..].starts_with(&after), "the rest of the page stays");
+}
+
+fn new_page() -> Box<[u8; LONGEST_REPORT]> {
+    vec![0x80; LONGEST_REPORT].into_boxed_slice().try_into().expect("that many bytes")
 }
 
 #[test]
 fn reports() {
     let mut random = Random::for_test("reports");
+    let mut page = new_page();
     for number in 0..40_000 {
         let alphabet = random.below(ALPHABETS);
         let n = random.size(16, if number % 50 == 0 { 5000 } else { 120 });
@@ -92,25 +92,40 @@ fn reports() {
             input.push(b'\n');
         }
         input.append(&mut text);
-        check_report(&input);
+        check_report(&input, &mut page);
     }
 }
 
 #[test]
 fn reports_at_the_edges() {
-    check_report(b"");
-    check_report(b"\n");
-    check_report(b"\n\n");
-    check_report(b"A");
-    check_report(b"AB\nABZAB");
+    let mut page = new_page();
+    let mut check = |input: &[u8]| check_report(input, &mut page);
+    check(b"");
+    check(b"\n");
+    check(b"\n\n");
+    check(b"A");
+    check(b"AB\nABZAB");
     for m in [LONGEST_NEEDLE, LONGEST_NEEDLE + 1] {
-        check_report(&[vec![b'A'; m], b"\n".to_vec(), vec![b'A'; 2000]].concat());
+        check(&[vec![b'A'; m], b"\n".to_vec(), vec![b'A'; 2000]].concat());
     }
     for size in [LONGEST_INPUT - 1, LONGEST_INPUT, LONGEST_INPUT + 1, 200_000] {
-        let feeds = vec![b'\n'; size];
-        check_report(&feeds);
-        check_report(&vec![b'A'; size]);
-        check_report(&[b"AB\n", &b"ABZAB".repeat(size)[..size - 3]].concat());
+        check(&vec![b'\n'; size]);
+        check(&vec![b'A'; size]);
+        check(&[b"AB\n", &b"ABZAB".repeat(size)[..size - 3]].concat());
     }
-    assert_eq!(report(&vec![b'\n'; LONGEST_INPUT]).len(), LONGEST_REPORT);
+    assert_eq!(report(&vec![b'\n'; LONGEST_INPUT]).map(|lines| lines.len()), Ok(LONGEST_REPORT));
+}
+
+/// A refused report leaves every byte of the page.
+#[test]
+fn refused_reports_leave_the_page() {
+    let long_needle = [vec![b'A'; LONGEST_NEEDLE + 1], b"\n".to_vec()].concat();
+    let long_input = vec![b'\n'; LONGEST_INPUT + 1];
+    for (input, refusal) in [(&b"A"[..], Refusal::Feed), (&long_needle, Refusal::Needle), (&long_input, Refusal::Input)]
+    {
+        let mut page = new_page();
+        assert_eq!(report_into(input, &mut page), Err(refusal));
+        assert!(page.iter().all(|&byte| byte == 0x80));
+        assert_eq!(refusal_line(refusal).to_vec(), format!("{:8}\n", refusal.number()).into_bytes());
+    }
 }

@@ -274,7 +274,7 @@ static void settle(void)
 
 /* ---- figures ---- */
 
-static uint64_t given[HX_ABSENT + 1], short_pages;
+static uint64_t given[HX_ABSENT + 1];
 
 static void expect(uint32_t result, uint32_t expected)
 {
@@ -936,76 +936,92 @@ static void draw_input(text *input)
     chosen(&input->p);
 }
 
-/* What stands in the report but the compares: the refusal, or the positions, with the line of totals behind them.
- * Returns how many bytes the report has. */
+/* The number that refuses the input of a report: 7, 6 and 3 are tested in this order. */
+static uint32_t report_refusal(const text *input)
+{
+    if (input->length > HX_LONGEST_INPUT)
+        return HX_INPUT_REFUSED;
+    const uint8_t *feed = memchr(input->p.at, '\n', input->length);
+    if (feed == NULL)
+        return HX_FEED_REFUSED;
+    return feed - input->p.at > (ptrdiff_t)HX_LONGEST_NEEDLE ? HX_NEEDLE_REFUSED : 0;
+}
+
+/* The line of totals: how many matches, and the compares, which are a number in 10 columns. */
+static void check_totals(const uint8_t *page, uint64_t count, bool empty_needle)
+{
+    char line[32];
+    uint64_t compares = 0;
+    snprintf(line, sizeof line, "%8" PRIu64, count);
+    if (memcmp(page, line, 8) != 0 || page[18] != '\n')
+        fail("the report's last line is not one of %" PRIu64 " matches", count);
+    for (size_t i = 8; i < 18; i++)
+        compares = page[i] == ' ' && compares == 0 ? 0 : compares * 10 + (uint64_t)(page[i] - '0');
+    snprintf(line, sizeof line, "%10" PRIu64, compares);
+    if (memcmp(page + 8, line, 10) != 0 || (empty_needle && compares != 0))
+        fail("the report's column of compares is no number, or not 0 for an empty needle");
+}
+
+/* The lines of an accepted input, but for the compares. Returns how many bytes they are. */
 static size_t check_report(const text *input, const uint8_t *page)
 {
     char line[32];
-    size_t bytes = 0;
-    uint64_t refused = 0, count = 0;
-    const uint8_t *feed = NULL;
-    if (input->length > HX_LONGEST_INPUT)
-        refused = HX_INPUT_REFUSED;
-    else if ((feed = memchr(input->p.at, '\n', input->length)) == NULL)
-        refused = HX_FEED_REFUSED;
-    else if (feed - input->p.at > (ptrdiff_t)HX_LONGEST_NEEDLE)
-        refused = HX_NEEDLE_REFUSED;
-    if (refused != 0) {
-        snprintf(line, sizeof line, "%8" PRIu64 "\n", refused);
-        if (page != NULL && memcmp(page, line, 9) != 0)
-            fail("the report of an input that is refused by %" PRIu64 " has other bytes", refused);
-        return 9;
-    }
-    text needle = {
-        {input->p.in, input->p.at, (size_t)(feed - input->p.at), false, false}, (size_t)(feed - input->p.at), 1};
-    text t = {{input->p.in, input->p.at + needle.length + 1, input->length - needle.length - 1, false, false},
-              input->length - needle.length - 1,
-              1};
+    size_t bytes = 0, m = (size_t)((uint8_t *)memchr(input->p.at, '\n', input->length) - input->p.at);
+    uint64_t count = 0;
+    text needle = {{input->p.in, input->p.at, m, false, false}, m, 1};
+    text t = {{input->p.in, input->p.at + m + 1, input->length - m - 1, false, false}, input->length - m - 1, 1};
     for (uint64_t p = stands_from(&t, &needle, 0); p != UINT64_MAX;
-         p = stands_from(&t, &needle, p + 1), count++, bytes += 9)
-        if (page != NULL && (snprintf(line, sizeof line, "%8" PRIu64 "\n", p), memcmp(page + bytes, line, 9) != 0))
+         p = stands_from(&t, &needle, p + 1), count++, bytes += 9) {
+        snprintf(line, sizeof line, "%8" PRIu64 "\n", p);
+        if (memcmp(page + bytes, line, 9) != 0)
             fail("line %" PRIu64 " of the report is not position %" PRIu64, count, p);
-    if (page != NULL) {
-        uint64_t compares = 0;
-        snprintf(line, sizeof line, "%8" PRIu64, count);
-        if (memcmp(page + bytes, line, 8) != 0 || page[bytes + 18] != '\n')
-            fail("the report's last line is not one of %" PRIu64 " matches", count);
-        for (size_t i = 8; i < 18; i++)
-            compares = page[bytes + i] == ' ' && compares == 0 ? 0 : compares * 10 + (uint64_t)(page[bytes + i] - '0');
-        snprintf(line, sizeof line, "%10" PRIu64, compares);
-        if (memcmp(page + bytes + 8, line, 10) != 0 || (needle.length == 0 && compares != 0))
-            fail("the report's column of compares is no number, or not 0 for an empty needle");
     }
+    check_totals(page + bytes, count, m == 0);
     return bytes + 19;
 }
 
+/* A page is long, so its bytes are those that earlier reports left, and only those around the lines are looked at here;
+ * the others are with the arenas, from time to time. */
 static void try_report(void)
 {
     text input;
-    place p;
-    size_t result, length;
+    place p, q;
+    uint32_t result;
     begin("hx_report");
     draw_input(&input);
-    size_t need = check_report(&input, NULL);
-    switch (below(8)) {
-    case 0: length = below(need + 1); break;
-    case 1: length = need - 1 - below(3); break;
-    case 2: length = need + 1 + below(64); break;
-    case 3: length = one_in(256) ? HX_LONGEST_REPORT - 1 + below(3) : below(30); break;
-    default: length = need;
+    put(&p, C, HX_LONGEST_REPORT, 1, true);
+    size_t *count = out(&q, D, sizeof *count, sizeof *count);
+    arg("input_length", input.length);
+    CALL(hx_report(input.p.at, input.length, p.at, count));
+    expect(result, report_refusal(&input));
+    p.bytes = 0;
+    if (result == 0) {
+        p.bytes = check_report(&input, p.at);
+        if (*count != p.bytes)
+            fail("the report has %zu bytes, not %zu", p.bytes, *count);
+        written(&p, p.bytes);
+        written(&q, sizeof *count);
     }
-    arg("input_length", input.length), arg("page_length", length), arg("report", need);
-    uint8_t *page = out(&p, C, length, 1);
-    CALL(hx_report(input.p.at, input.length, page, length));
-    if (result != (length < need ? 0 : need))
-        fail("returned %zu", result);
-    if (result == 0)
-        short_pages++;
-    else {
-        check_report(&input, page);
-        written(&p, need);
-        given[0]++;
-    }
+    settle();
+}
+
+static void try_refusal_line(void)
+{
+    place p;
+    uint32_t result = 0, number = one_in(2) ? (uint32_t)below(300) : (uint32_t)any_number();
+    char line[32];
+    begin("hx_refusal_line");
+    uint8_t *at = out(&p, C, HX_NUMBER_LINE, 1);
+    arg("number", number);
+    CALL((hx_refusal_line(number, at), 0u));
+    if (number < 100000000)
+        snprintf(line, sizeof line, "%8" PRIu32 "\n", number);
+    else
+        snprintf(line, sizeof line, "%8s\n", "");
+    if (memcmp(at, line, HX_NUMBER_LINE) != 0)
+        fail("the line of %" PRIu32 " is not %s", number, line);
+    written(&p, HX_NUMBER_LINE);
+    expect(result, 0);
     settle();
 }
 
@@ -1016,7 +1032,7 @@ static void (*const tries[])(void) = {
     try_fresh, try_next_bytes, try_next_words,                                                  /* the search */
     try_span_bytes, try_span_words, try_ranges_bytes, try_ranges_words,                         /* leading runs */
     try_compare_bytes, try_compare_words, try_lesser_bytes, try_lesser_words,                   /* orders */
-    try_column, try_report,
+    try_column, try_report, try_refusal_line,
 };
 
 static void try_case(uint64_t number)
@@ -1076,9 +1092,9 @@ static double seconds(void)
 static void tell_figures(double took)
 {
     printf("tests/faults: %" PRIu64 " calls in %.1f s, %.0f a second, none wrong (seed %" PRIu64 ", digest %016" PRIx64
-           ", " FORM "); accepted %.2f %%, absent %.2f %%, page too short %.2f %%, refused by",
+           ", " FORM "); accepted %.2f %%, absent %.2f %%, refused by",
            calls, took, (double)calls / took, seed, digest, 100.0 * (double)given[0] / (double)calls,
-           100.0 * (double)given[HX_ABSENT] / (double)calls, 100.0 * (double)short_pages / (double)calls);
+           100.0 * (double)given[HX_ABSENT] / (double)calls);
     for (uint32_t i = 1; i < HX_ABSENT; i++)
         if (given[i] != 0)
             printf(" %" PRIu32 ": %.2f %%", i, 100.0 * (double)given[i] / (double)calls);

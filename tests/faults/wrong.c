@@ -4,6 +4,7 @@
  * has the number of the mistake; with none, every call does what the library does.
  */
 #include <stdlib.h>
+#include <string.h>
 
 #include "hirtxonda.h"
 
@@ -175,17 +176,32 @@ WRAPPED(uint32_t, hx_right_justified, (uint64_t number, size_t width, uint8_t *b
     return r;
 }
 
-WRAPPED(size_t, hx_report, (const uint8_t *input, size_t input_length, uint8_t *page, size_t page_length))
+WRAPPED(uint32_t, hx_report, (const uint8_t *input, size_t input_length, uint8_t *page, size_t *count))
 {
-    size_t r = __real_hx_report(input, input_length, page, page_length);
-    if (wrong(30)) /* writes behind the report, where that is also the page's end */
-        page[r] = 0;
-    if (wrong(31) && r == 0 && page_length != 0) /* writes on a page that is too short */
-        page[0] = ' ';
-    if (wrong(32) && r != 0) /* one byte less than there are */
-        return r - 1;
+    uint32_t r = __real_hx_report(input, input_length, page, count);
+    if (wrong(30) && r == 0 && *count < HX_LONGEST_REPORT) /* ends the report with a zero */
+        page[*count] = 0;
+    if (wrong(31) && r != 0) /* a refused call writes the number's line */
+        memcpy(page, "       6\n", 9);
+    if (wrong(32) && r == 0) /* one byte less than there are */
+        --*count;
     if (wrong(33)) /* looks for a line feed in an input of any length */
         for (size_t i = 0; i < input_length && input[i] != '\n'; i++)
             sink = input[i];
+    if (wrong(34) && r != 0) /* a refused call tells 0 bytes */
+        *count = 0;
+    if (wrong(35) && r == HX_NEEDLE_REFUSED) /* the needle is not measured */
+        return 0;
+    if (wrong(36) && r == 0) /* writes behind the page */
+        page[HX_LONGEST_REPORT] = 0;
     return r;
+}
+
+WRAPPED(void, hx_refusal_line, (uint32_t number, uint8_t *line))
+{
+    __real_hx_refusal_line(number, line);
+    if (wrong(37)) /* no line feed */
+        line[8] = ' ';
+    if (wrong(38)) /* ends the line with a zero */
+        line[9] = 0;
 }
