@@ -1,4 +1,5 @@
-//! The raw C calls: each number at its edge, the lowest where several apply, and nothing written by a refused call.
+//! The raw C calls: each number at its edge, the lowest where several apply, and nothing written by
+//! a refused call.
 
 mod common;
 #[allow(dead_code)]
@@ -133,8 +134,8 @@ fn next_in_words() {
     next::<u16>();
 }
 
-/// Cursors that no list of calls gives, on short texts. A refused one is as it was, exhausted by any
-/// number but 0.
+/// Cursors that no list of calls gives, on short texts. A refused one is as it was, exhausted by
+/// any number but 0.
 fn made_up_cursors<E: Calls + Clone + Default>() {
     let needle = vec![E::default(); LONGEST_NEEDLE + 1];
     for (n, m) in [0, 20, 40].into_iter().flat_map(|n| [0, 1, LONGEST_NEEDLE, LONGEST_NEEDLE + 1].map(|m| (n, m))) {
@@ -239,7 +240,8 @@ fn signed_numbers() {
     }
 }
 
-/// A length that is refused is refused before anything is read: here it is far longer than what stands behind the pointer.
+/// A length that is refused is refused before anything is read: here it is far longer than what
+/// stands behind the pointer.
 #[test]
 fn refused_lengths_are_not_read() {
     let (byte, word) = ([1u8], [1u16]);

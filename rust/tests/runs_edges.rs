@@ -67,7 +67,8 @@ fn assert_run<E: Letter>(text: &[E], length: usize) {
     check_range_span(text, &bounds);
 }
 
-/// Before, at and after the end of a block; and the text goes on, or ends with what does not belong.
+/// Before, at and after the end of a block; and the text goes on, or ends with what does not
+/// belong.
 fn runs_that_end_at_each_place<E: Letter>() {
     for k in PLACES {
         for stranger in [z::<E>(), E::cut(0), E::cut(0xffff), E::cut(0x6160), E::cut(0x6164)] {
@@ -179,8 +180,8 @@ fn ranges_across_the_sign<E: Letter>() {
     }
 }
 
-/// An element that differs in one bit from a member, or from a range of one element, at each place. A
-/// word is so alike in its low byte or in its high one.
+/// An element that differs in one bit from a member, or from a range of one element, at each place.
+/// A word is so alike in its low byte or in its high one.
 fn members_alike_but_for_one_bit<E: Letter>() {
     for k in PLACES {
         for bit in 0..128 / E::BLOCK {
@@ -330,8 +331,8 @@ fn drawn_runs<E: Letter>() {
     assert!(seen.iter().all(|&count| count >= OFTEN), "{seen:?}");
 }
 
-/// A run that ends before, at or after a block's end, a text that belongs as a whole, within a block
-/// and to its end, a zero in the run and one that ends it, bounds that signs decide.
+/// A run that ends before, at or after a block's end, a text that belongs as a whole, within a
+/// block and to its end, a zero in the run and one that ends it, bounds that signs decide.
 fn note_run<E: Letter>(seen: &mut [usize], text: &[E], list: &[E]) {
     let (n, b, k) = (text.len(), E::BLOCK, front(text, |element| list.contains(&element)).len());
     let in_bounds =
@@ -369,8 +370,8 @@ fn drawn_orders<E: Letter>() {
     assert!(seen.iter().all(|&count| count >= OFTEN), "{seen:?}");
 }
 
-/// Equal texts, each the front of the other, also up to a block's end, a first difference before, at
-/// and after a block's end, a shorter text that is greater, an order that signs decide.
+/// Equal texts, each the front of the other, also up to a block's end, a first difference before,
+/// at and after a block's end, a shorter text that is greater, an order that signs decide.
 fn note_order<E: Letter>(seen: &mut [usize], first: &[E], second: &[E]) {
     let (n, m, b) = (first.len(), second.len(), E::BLOCK);
     let k = first.iter().zip(second).take_while(|(x, y)| x == y).count();

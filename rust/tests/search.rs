@@ -1,4 +1,5 @@
-//! The proved search against the same walk on the processor's instructions, call by call, and against brute force.
+//! The proved search against the same walk on the processor's instructions, call by call, and
+//! against brute force.
 
 mod common;
 
@@ -6,7 +7,8 @@ use common::search::{check_call, check_list, on_silicon};
 use common::{positions, silicon_available, text, Letter, Random, ALPHABETS};
 use hirtxonda::{matches, Cursor, Next, Refusal, LONGEST_NEEDLE, LONGEST_TEXT, MOST_COMPARES};
 
-/// A needle of m elements: drawn alone, or a part of the text, perhaps with one bit of one element changed.
+/// A needle of m elements: drawn alone, or a part of the text, perhaps with one bit of one element
+/// changed.
 fn needle_for<E: Letter>(random: &mut Random, text: &[E], alphabet: usize, m: usize) -> Vec<E> {
     let mut needle = common::text(random, alphabet, m);
     if m > 0 && m <= text.len() && !random.one_in(4) {
@@ -26,7 +28,8 @@ fn flip<E: Letter>(random: &mut Random, part: &mut [E]) {
     part[element] = E::cut(part[element].unsigned() as u64 ^ bits);
 }
 
-/// Copies of the needle in the text, some with a flaw in one element: whole in its first piece, so that later pieces are compared.
+/// Copies of the needle in the text, some with a flaw in one element: whole in its first piece, so
+/// that later pieces are compared.
 fn plant<E: Letter>(random: &mut Random, text: &mut [E], needle: &[E]) {
     if needle.is_empty() || needle.len() > text.len() {
         return;
@@ -76,7 +79,8 @@ fn longer_texts_in_words() {
     lists::<u16>("longer_texts_in_words", 4_000, 4000, LONGEST_NEEDLE);
 }
 
-/// Cursors that no list of calls gives, at every edge and at random; and another text or needle for a cursor on its way.
+/// Cursors that no list of calls gives, at every edge and at random; and another text or needle for
+/// a cursor on its way.
 fn cursors<E: Letter>(test: &str) {
     let mut random = Random::for_test(test);
     let real = silicon_available(test);

@@ -113,8 +113,8 @@ fn halves<E: Letter>() -> [u64; 2] {
     [1, 1 << (64 / E::BLOCK)]
 }
 
-/// Elements of a needle of several pieces, each to be changed in one half: the first and the last of
-/// the second piece, the last of all, and the middle one.
+/// Elements of a needle of several pieces, each to be changed in one half: the first and the last
+/// of the second piece, the last of all, and the middle one.
 fn flaws<E: Letter>(m: usize) -> Vec<(usize, u64)> {
     let b = E::BLOCK;
     let places = [b, (2 * b - 1).min(m - 1), m - 1, (m / 2).max(b)];
@@ -154,8 +154,8 @@ fn compares_up_to_the_piece_that_differs<E: Letter>() {
     }
 }
 
-/// A place where the needle stands but for one bit of one element, and then the needle itself. A word
-/// is so alike in its low byte or in its high one.
+/// A place where the needle stands but for one bit of one element, and then the needle itself. A
+/// word is so alike in its low byte or in its high one.
 fn elements_alike_but_for_one_bit<E: Letter>() {
     let mut random = Random::fixed("elements_alike_but_for_one_bit");
     let real = silicon_available("elements_alike_but_for_one_bit");

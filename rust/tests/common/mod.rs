@@ -121,8 +121,8 @@ impl Letter for u16 {
     }
 }
 
-/// Alphabets: any elements; two letters; one letter; words that are alike in their low byte, in their
-/// high byte or in neither; all bits zero or all one.
+/// Alphabets: any elements; two letters; one letter; words that are alike in their low byte, in
+/// their high byte or in neither; all bits zero or all one.
 pub const ANY: usize = 0;
 pub const TWO: usize = 1;
 pub const ONE: usize = 3;
@@ -232,7 +232,8 @@ pub fn walk_compares<E: Element>(text: &[E], needle: &[E], mut p: usize) -> u64 
     compares
 }
 
-/// Whether the piece stands at k as far as the block goes; the part is shorter than a block only at the text's end.
+/// Whether the piece stands at k as far as the block goes; the part is shorter than a block only at
+/// the text's end.
 fn maybe_stands<E: Eq>(part: &[E], piece: &[E], k: usize, b: usize) -> bool {
     piece.iter().take(b - k).enumerate().all(|(i, element)| part.get(k + i) == Some(element))
 }
