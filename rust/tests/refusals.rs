@@ -1,11 +1,12 @@
-//! The raw C calls: each number at its edge, the lowest where several apply, and nothing written by a refused call.
+//! The raw C calls: each number at its edge, the lowest where several apply, and nothing written by
+//! a refused call.
 
 mod common;
 #[allow(dead_code)]
 #[path = "../src/raw.rs"]
 mod raw;
 
-use common::search_refusal;
+use common::{in_both_widths, search_refusal};
 use hirtxonda::{
     pcmpestri, pcmpestrm, pcmpistri, pcmpistrm, Cursor, Element, Refusal, LONGEST_NEEDLE, LONGEST_REPORT, LONGEST_TEXT,
     MOST_COMPARES,
@@ -134,6 +135,37 @@ fn next_in_words() {
     next::<u16>();
 }
 
+/// Cursors that no list of calls gives, on short texts. A refused one is as it was, exhausted by
+/// any number but 0.
+fn made_up_cursors<E: Calls + Clone + Default>() {
+    let needle = vec![E::default(); LONGEST_NEEDLE + 1];
+    for (n, m) in [0, 20, 40].into_iter().flat_map(|n| [0, 1, LONGEST_NEEDLE, LONGEST_NEEDLE + 1].map(|m| (n, m))) {
+        for cursor in some_cursors(n as u64) {
+            // SAFETY: see `controls`.
+            let (number, (after, place)) = with_sentinel((cursor, SENTINEL), |p| unsafe {
+                E::NEXT(&mut (*p).0, needle.as_ptr(), n, needle.as_ptr(), m, &mut (*p).1)
+            });
+            let raw::Cursor { position, compares, exhausted } = cursor;
+            match search_refusal(n, m, Cursor { position, compares, exhausted: exhausted != 0 }) {
+                Some(refusal) => assert_eq!((number, after, place), (refusal.number(), cursor, SENTINEL)),
+                None => assert!(number == 0 || number == ABSENT, "{cursor:?}, n = {n}, m = {m}: {number}"),
+            }
+        }
+    }
+}
+
+fn some_cursors(n: u64) -> Vec<raw::Cursor> {
+    let positions = [0, 1, n, n + 1, n + 2, 1 << 32, 1 << 63, u64::MAX];
+    let compares = [0, MOST_COMPARES - 1, MOST_COMPARES, MOST_COMPARES + 1, 1 << 63, u64::MAX];
+    let pairs = positions.into_iter().flat_map(|position| compares.map(|compares| (position, compares)));
+    let with = |(position, compares), exhausted| raw::Cursor { position, compares, exhausted };
+    pairs.flat_map(|pair| [0, 1, 2, 1 << 32, u64::MAX].map(|exhausted| with(pair, exhausted))).collect()
+}
+
+in_both_widths! {
+    made_up_cursors
+}
+
 /// Every set of conditions out of 2, 4, 5.
 fn lists<E: Calls + Clone + Default>() {
     let text = vec![E::default(); LONGEST_TEXT + 1];
@@ -209,7 +241,8 @@ fn signed_numbers() {
     }
 }
 
-/// A length that is refused is refused before anything is read: here it is far longer than what stands behind the pointer.
+/// A length that is refused is refused before anything is read: here it is far longer than what
+/// stands behind the pointer.
 #[test]
 fn refused_lengths_are_not_read() {
     let (byte, word) = ([1u8], [1u16]);

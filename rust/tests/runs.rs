@@ -4,29 +4,9 @@ mod common;
 
 use std::cmp::Ordering;
 
+use common::texts::{check_order, check_range_span, check_span, order, same};
 use common::{text, Letter, Random, ALPHABETS};
 use hirtxonda::{compare, lesser, range_span, span, Refusal, Signedness, LONGEST_TEXT};
-
-const BOTH: [Signedness; 2] = [Signedness::Unsigned, Signedness::Signed];
-
-fn front<E: Letter>(text: &[E], belongs: impl Fn(E) -> bool) -> &[E] {
-    &text[..text.iter().position(|&element| !belongs(element)).unwrap_or(text.len())]
-}
-
-fn in_ranges<E: Letter>(element: E, bounds: &[E], signedness: Signedness) -> bool {
-    let value = |element: E| element.value(signedness == Signedness::Signed);
-    bounds.chunks(2).any(|pair| value(pair[0]) <= value(element) && value(element) <= value(pair[1]))
-}
-
-fn order<E: Letter>(first: &[E], second: &[E], signedness: Signedness) -> Ordering {
-    let values = |text: &[E]| text.iter().map(|e| e.value(signedness == Signedness::Signed)).collect::<Vec<_>>();
-    values(first).cmp(&values(second))
-}
-
-/// The very part of the caller's memory, not only equal elements.
-fn same<E: Letter>(a: &[E], b: &[E]) -> bool {
-    a.as_ptr() == b.as_ptr() && a.len() == b.len()
-}
 
 /// A text that mostly belongs: drawn from the list, with a few strangers.
 fn run<E: Letter>(random: &mut Random, list: &[E], alphabet: usize, n: usize) -> Vec<E> {
@@ -38,24 +18,6 @@ fn run<E: Letter>(random: &mut Random, list: &[E], alphabet: usize, n: usize) ->
         }
     }
     run
-}
-
-fn check_span<E: Letter>(text: &[E], set: &[E]) {
-    let expected = front(text, |element| set.contains(&element));
-    assert!(same(span(text, set).expect("accepted"), expected), "{text:02x?} set {set:02x?}");
-}
-
-fn check_range_span<E: Letter>(text: &[E], bounds: &[E]) {
-    for signedness in BOTH {
-        let expected = front(text, |element| in_ranges(element, bounds, signedness));
-        let given = range_span(text, bounds, signedness).expect("accepted");
-        assert!(
-            same(given, expected),
-            "{signedness:?} {text:02x?} bounds {bounds:02x?}: {} {}",
-            given.len(),
-            expected.len()
-        );
-    }
 }
 
 fn runs<E: Letter>(test: &str) {
@@ -90,15 +52,6 @@ fn ranges_at_the_edges() {
         for high in edges {
             (0..=255u8).for_each(|byte| check_range_span(&[byte], &[low, high]));
         }
-    }
-}
-
-fn check_order<E: Letter>(first: &[E], second: &[E]) {
-    for signedness in BOTH {
-        let expected = order(first, second, signedness);
-        assert_eq!(compare(first, second, signedness), Ok(expected), "{signedness:?} {first:02x?} {second:02x?}");
-        let smaller = lesser(first, second, signedness).expect("accepted");
-        assert!(same(smaller, if expected == Ordering::Greater { second } else { first }));
     }
 }
 

@@ -1,70 +1,14 @@
-//! The proved search against the same walk on the processor's instructions, call by call, and against brute force.
+//! The proved search against the same walk on the processor's instructions, call by call, and
+//! against brute force.
 
 mod common;
 
-use common::{positions, search_refusal, silicon_available, stands, text, walk_compares, Letter, Random, ALPHABETS};
+use common::search::{check_call, check_list, on_silicon};
+use common::{positions, silicon_available, text, Letter, Random, ALPHABETS};
 use hirtxonda::{matches, Cursor, Next, Refusal, LONGEST_NEEDLE, LONGEST_TEXT, MOST_COMPARES};
 
-/// What a call must answer, by comparing elements one by one.
-fn expected<E: Letter>(cursor: Cursor, text: &[E], needle: &[E]) -> Result<Next, Refusal> {
-    if let Some(refusal) = search_refusal(text.len(), needle.len(), cursor) {
-        return Err(refusal);
-    }
-    let from = cursor.position as usize;
-    let compares = cursor.compares + walk_compares(text, needle, from);
-    Ok(match (from..=text.len()).find(|&position| stands(text, needle, position)) {
-        Some(position) => {
-            Next::Match { position, cursor: Cursor { position: position as u64 + 1, compares, exhausted: false } }
-        }
-        None => Next::Absent { cursor: Cursor { compares, exhausted: true, ..cursor } },
-    })
-}
-
-/// The same call by the instructions, where the processor has them.
-fn on_silicon<E: Letter>(real: bool, cursor: Cursor, text: &[E], needle: &[E]) -> Option<Result<Next, Refusal>> {
-    #[cfg(target_arch = "x86_64")]
-    return real.then(|| hirtxonda::silicon::next(cursor, text, needle));
-    #[cfg(not(target_arch = "x86_64"))]
-    return None;
-}
-
-/// One call, three ways.
-fn check_call<E: Letter>(real: bool, cursor: Cursor, text: &[E], needle: &[E]) -> Result<Next, Refusal> {
-    let next = cursor.next(text, needle);
-    let what = || format!("{cursor:?}, n = {}, needle {needle:02x?}", text.len());
-    if let Some(by_instructions) = on_silicon(real, cursor, text, needle) {
-        assert_eq!(next, by_instructions, "against the instructions: {}", what());
-    }
-    assert_eq!(next, expected(cursor, text, needle), "against brute force: {}", what());
-    next
-}
-
-/// A whole list of calls from a fresh cursor, and the iterators over the same text and needle.
-fn check_list<E: Letter>(real: bool, text: &[E], needle: &[E]) {
-    let mut cursor = Cursor::fresh();
-    let mut found = Vec::new();
-    while let Next::Match { position, cursor: following } = check_call(real, cursor, text, needle).expect("accepted") {
-        found.push(position);
-        cursor = following;
-    }
-    let Ok(Next::Absent { cursor }) = cursor.next(text, needle) else { panic!("a list ends with absent") };
-    assert_eq!(check_call(real, cursor, text, needle), Err(Refusal::Exhausted));
-    assert_eq!(found, positions(text, needle));
-    check_iterator(matches(text, needle), &found, cursor.compares);
-    #[cfg(target_arch = "x86_64")]
-    if real {
-        check_iterator(hirtxonda::silicon::matches(text, needle), &found, cursor.compares);
-    }
-}
-
-fn check_iterator<E: Letter>(matches: Result<hirtxonda::Matches<'_, E>, Refusal>, found: &[usize], compares: u64) {
-    let mut matches = matches.expect("accepted");
-    assert!(matches.by_ref().eq(found.iter().copied()));
-    assert_eq!(matches.next(), None);
-    assert_eq!(matches.compares(), compares);
-}
-
-/// A needle of m elements: drawn alone, or a part of the text, perhaps with one bit of one element changed.
+/// A needle of m elements: drawn alone, or a part of the text, perhaps with one bit of one element
+/// changed.
 fn needle_for<E: Letter>(random: &mut Random, text: &[E], alphabet: usize, m: usize) -> Vec<E> {
     let mut needle = common::text(random, alphabet, m);
     if m > 0 && m <= text.len() && !random.one_in(4) {
@@ -84,7 +28,8 @@ fn flip<E: Letter>(random: &mut Random, part: &mut [E]) {
     part[element] = E::cut(part[element].unsigned() as u64 ^ bits);
 }
 
-/// Copies of the needle in the text, some with a flaw in one element: whole in its first piece, so that later pieces are compared.
+/// Copies of the needle in the text, some with a flaw in one element: whole in its first piece, so
+/// that later pieces are compared.
 fn plant<E: Letter>(random: &mut Random, text: &mut [E], needle: &[E]) {
     if needle.is_empty() || needle.len() > text.len() {
         return;
@@ -134,7 +79,8 @@ fn longer_texts_in_words() {
     lists::<u16>("longer_texts_in_words", 4_000, 4000, LONGEST_NEEDLE);
 }
 
-/// Cursors that no list of calls gives, at every edge and at random; and another text or needle for a cursor on its way.
+/// Cursors that no list of calls gives, at every edge and at random; and another text or needle for
+/// a cursor on its way.
 fn cursors<E: Letter>(test: &str) {
     let mut random = Random::for_test(test);
     let real = silicon_available(test);

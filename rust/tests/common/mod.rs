@@ -1,5 +1,8 @@
 //! What the tests share: a generator, texts to draw, and the definitions in plain Rust.
-#![allow(dead_code)]
+#![allow(dead_code, unused_macros, unused_imports)]
+
+pub mod search;
+pub mod texts;
 
 use std::io::Write;
 use std::time::{SystemTime, UNIX_EPOCH};
@@ -34,6 +37,15 @@ impl Random {
             Err(_) => SystemTime::now().duration_since(UNIX_EPOCH).expect("a clock").as_nanos() as u64,
         };
         say(&format!("{test}: HIRTXONDA_SEED={seed}"));
+        Random::named(test, seed)
+    }
+
+    /// The generator of a test that draws the same cases in every run.
+    pub fn fixed(test: &str) -> Random {
+        Random::named(test, 0)
+    }
+
+    fn named(test: &str, seed: u64) -> Random {
         Random(test.bytes().fold(seed, |state, byte| Random(state ^ u64::from(byte)).draw()))
     }
 
@@ -109,21 +121,63 @@ impl Letter for u16 {
     }
 }
 
-/// A text over an alphabet: any elements, two letters, few letters, one letter, bytes at the edges, mostly one letter.
+/// Alphabets: any elements; two letters; one letter; words that are alike in their low byte, in
+/// their high byte or in neither; all bits zero or all one.
+pub const ANY: usize = 0;
+pub const TWO: usize = 1;
+pub const ONE: usize = 3;
+pub const HALVES: usize = 6;
+pub const ENDS: usize = 7;
+/// Beside these, few letters, bytes at the edges, and mostly one letter.
+pub const ALPHABETS: usize = 8;
+
+/// A text over an alphabet.
 pub fn text<E: Letter>(random: &mut Random, alphabet: usize, size: usize) -> Vec<E> {
     let edges = [0x00, 0x01, 0x7e, 0x7f, 0x80, 0x81, 0xfe, 0xff];
     let letter = |random: &mut Random| match alphabet {
-        0 => random.draw() >> 32,
-        1 => 0x4141 + random.below(2) as u64,
+        ANY => random.draw() >> 32,
+        TWO => 0x4141 + random.below(2) as u64,
         2 => 0x4141 + random.below(5) as u64,
-        3 => 0x4141,
+        ONE => 0x4141,
         4 => random.pick(&edges) << 8 | random.pick(&edges),
+        HALVES => random.pick(&[0x6261, 0x6262, 0x6361, 0x6362]),
+        ENDS => random.pick(&[0, 0xffff]),
         _ => 0x4141 + u64::from(random.one_in(40)) * 0x0101,
     };
     (0..size).map(|_| E::cut(letter(random))).collect()
 }
 
-pub const ALPHABETS: usize = 6;
+/// One element changed in these bits.
+pub fn changed<E: Letter>(part: &[E], at: usize, bits: u64) -> Vec<E> {
+    let mut changed = part.to_vec();
+    changed[at] = E::cut(part[at].unsigned() as u64 ^ bits);
+    changed
+}
+
+/// A part put into a text at a place, as far as the text goes.
+pub fn put<E: Copy>(text: &mut [E], place: usize, part: &[E]) {
+    for (at, element) in text.iter_mut().skip(place).zip(part) {
+        *at = *element;
+    }
+}
+
+/// A test in both widths, from a function over the element.
+macro_rules! in_both_widths {
+    ($($name:ident)*) => { $(
+        mod $name {
+            #[test]
+            fn in_bytes() {
+                super::$name::<u8>();
+            }
+
+            #[test]
+            fn in_words() {
+                super::$name::<u16>();
+            }
+        }
+    )* };
+}
+pub(crate) use in_both_widths;
 
 // ---- the definitions, element by element
 
@@ -178,7 +232,8 @@ pub fn walk_compares<E: Element>(text: &[E], needle: &[E], mut p: usize) -> u64 
     compares
 }
 
-/// Whether the piece stands at k as far as the block goes; the part is shorter than a block only at the text's end.
+/// Whether the piece stands at k as far as the block goes; the part is shorter than a block only at
+/// the text's end.
 fn maybe_stands<E: Eq>(part: &[E], piece: &[E], k: usize, b: usize) -> bool {
     piece.iter().take(b - k).enumerate().all(|(i, element)| part.get(k + i) == Some(element))
 }

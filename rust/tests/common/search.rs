@@ -1,0 +1,72 @@
+//! A call of the search and a list of calls, held to the same walk on the processor's instructions
+//! and to brute force.
+
+use hirtxonda::{matches, Cursor, Next, Refusal};
+
+use super::{positions, search_refusal, stands, walk_compares, Letter};
+
+/// What a call must answer, by comparing elements one by one.
+pub fn expected<E: Letter>(cursor: Cursor, text: &[E], needle: &[E]) -> Result<Next, Refusal> {
+    if let Some(refusal) = search_refusal(text.len(), needle.len(), cursor) {
+        return Err(refusal);
+    }
+    let from = cursor.position as usize;
+    let compares = cursor.compares + walk_compares(text, needle, from);
+    Ok(match (from..=text.len()).find(|&position| stands(text, needle, position)) {
+        Some(position) => {
+            Next::Match { position, cursor: Cursor { position: position as u64 + 1, compares, exhausted: false } }
+        }
+        None => Next::Absent { cursor: Cursor { compares, exhausted: true, ..cursor } },
+    })
+}
+
+/// The same call by the instructions, where the processor has them.
+pub fn on_silicon<E: Letter>(real: bool, cursor: Cursor, text: &[E], needle: &[E]) -> Option<Result<Next, Refusal>> {
+    #[cfg(target_arch = "x86_64")]
+    return real.then(|| hirtxonda::silicon::next(cursor, text, needle));
+    #[cfg(not(target_arch = "x86_64"))]
+    return None;
+}
+
+/// One call, three ways.
+pub fn check_call<E: Letter>(real: bool, cursor: Cursor, text: &[E], needle: &[E]) -> Result<Next, Refusal> {
+    let next = cursor.next(text, needle);
+    let what = || format!("{cursor:?}, n = {}, needle {needle:02x?}", text.len());
+    if let Some(by_instructions) = on_silicon(real, cursor, text, needle) {
+        assert_eq!(next, by_instructions, "against the instructions: {}", what());
+    }
+    assert_eq!(next, expected(cursor, text, needle), "against brute force: {}", what());
+    next
+}
+
+/// A whole list of calls from a fresh cursor, and the iterators over the same text and needle.
+pub fn check_list<E: Letter>(real: bool, text: &[E], needle: &[E]) {
+    let mut cursor = Cursor::fresh();
+    let mut found = Vec::new();
+    while let Next::Match { position, cursor: following } = check_call(real, cursor, text, needle).expect("accepted") {
+        found.push(position);
+        cursor = following;
+    }
+    let Ok(Next::Absent { cursor }) = cursor.next(text, needle) else { panic!("a list ends with absent") };
+    assert_eq!(check_call(real, cursor, text, needle), Err(Refusal::Exhausted));
+    assert_eq!(found, positions(text, needle));
+    assert!(cursor.compares <= most_compares(text, needle), "{} compares", cursor.compares);
+    check_iterator(matches(text, needle), &found, cursor.compares);
+    #[cfg(target_arch = "x86_64")]
+    if real {
+        check_iterator(hirtxonda::silicon::matches(text, needle), &found, cursor.compares);
+    }
+}
+
+/// Document 01's bound of a list's compares.
+fn most_compares<E: Letter>(text: &[E], needle: &[E]) -> u64 {
+    let places = (text.len() + 1).saturating_sub(needle.len());
+    (places * needle.len().div_ceil(E::BLOCK)) as u64
+}
+
+fn check_iterator<E: Letter>(matches: Result<hirtxonda::Matches<'_, E>, Refusal>, found: &[usize], compares: u64) {
+    let mut matches = matches.expect("accepted");
+    assert!(matches.by_ref().eq(found.iter().copied()));
+    assert_eq!(matches.next(), None);
+    assert_eq!(matches.compares(), compares);
+}
