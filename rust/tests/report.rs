@@ -1,49 +1,9 @@
-//! Columns and the report against plain Rust.
+//! The report, and the line of a refusal, against plain Rust.
 
 mod common;
 
 use common::{list_compares, positions, text, Random, ALPHABETS};
-use hirtxonda::{
-    refusal_line, report, report_into, right_justified, Refusal, LONGEST_INPUT, LONGEST_NEEDLE, LONGEST_REPORT,
-};
-
-fn check_column(number: u64, width: usize, room: usize) {
-    let before: Vec<u8> = (0..room).map(|at| 0x80 | at as u8).collect();
-    let mut buffer = before.clone();
-    let digits = number.to_string().len();
-    let expected = if width == 0 || width > 20 || digits > width {
-        Err(Refusal::Width)
-    } else if room < width {
-        Err(Refusal::Buffer)
-    } else {
-        Ok(())
-    };
-    assert_eq!(right_justified(number, width, &mut buffer), expected, "{number} in {width} of {room}");
-    let written = if expected.is_ok() { format!("{number:>width$}").into_bytes() } else { Vec::new() };
-    assert_eq!(buffer, [&written, &before[written.len()..]].concat());
-}
-
-#[test]
-fn columns_at_the_edges() {
-    let powers = (0..20).map(|exponent| 10u64.pow(exponent));
-    let numbers =
-        powers.flat_map(|power| [power - 1, power, power + 1]).chain([u64::MAX - 1, u64::MAX, 1 << 32, 1 << 63]);
-    for number in numbers {
-        for width in (0..=24).chain([255, 256, 1 << 32, usize::MAX]) {
-            let rooms = [0, 1, width.saturating_sub(1).min(40), width.min(40), width.saturating_add(1).min(40), 40];
-            rooms.into_iter().for_each(|room| check_column(number, width, room));
-        }
-    }
-}
-
-#[test]
-fn columns() {
-    let mut random = Random::for_test("columns");
-    for _ in 0..2_000_000 {
-        let number = random.draw() >> random.below(64);
-        check_column(number, random.below(23), random.below(26));
-    }
-}
+use hirtxonda::{refusal_line, report, report_into, Refusal, LONGEST_INPUT, LONGEST_NEEDLE, LONGEST_REPORT};
 
 /// The lines that `hits` prints, or the number that refuses the input.
 fn expected(input: &[u8]) -> Result<Vec<u8>, Refusal> {
