@@ -15,6 +15,7 @@ use Rattle.bits.specs.Bits.{leastBelow}
 use Rattle.bits.proofs.Below.{by-order, least-at, least-none, least-before, least-passes}
 use Rattle.pcmpstr.specs.declared.Control.{Control}
 use Rattle.pcmpstr.specs.declared.Aggregation.the-variants.{EqualAny, Ranges}
+use Rattle.pcmpstr.specs.declared.IndexAnswer.{IndexAnswer}
 use Rattle.pcmpstr.specs.Control.{controlOf}
 use Rattle.pcmpstr.specs.Operand.{count}
 use Rattle.pcmpstr.specs.Compare.{operands, intRes1, intRes2}
@@ -24,7 +25,7 @@ use Rattle.pcmpstr.proofs.Unit.{any-bit, ranges-bit}
 use Rattle.blocks.specs.Blocks.{operandOf, compareIndex}
 use Rattle.blocks.proofs.Compares.{part-size, parts-index}
 use Rattle.spans.specs.Spans.{spanLength}
-use Rattle.spans.specs.Parts.{belongs, spanControl}
+use Rattle.spans.specs.Parts.{belongs, spanControl, block, frontIndex}
 
 -- ---- one block
 
@@ -66,69 +67,89 @@ control-small false signed = omega arith
 control-small true false = omega arith
 control-small true true = omega arith
 
--- the compare as code makes it
-pub span-called : (words ranges signed : Bool) (list block o₁ o₂ : List ℕ) (z₁ z₂ : ℤ) (c : ℕ) → o₁ ≡ operandOf words list → z₁ ≡ pos (length list) → o₂ ≡ operandOf words block → z₂ ≡ pos (length block) → c ≡ spanControl ranges signed + cond words 1 0 → PCMPESTRI o₁ z₁ o₂ z₂ c .index ≡ compareIndex words (spanControl ranges signed) list block
-unfolding compareIndex
-span-called words ranges signed list block o₁ o₂ z₁ z₂ c p₁ q₁ p₂ q₂ e t = PCMPESTRI (p₁ t) (q₁ t) (p₂ t) (q₂ t) (e t) .index
+-- ---- the compare as code makes it
+
+pub front-called : (words : Bool) (text o b : List ℕ) (i e c : ℕ) (l l' z : ℤ) (answer : IndexAnswer) → e ≡ min (i + count words) (length text) → i ≤ length text → l' ≡ l → b ≡ operandOf words (take (e - i) (drop i text)) → z ≡ pos (e - i) → answer ≡ PCMPESTRI o l' b z c → answer .index ≡ frontIndex words o l text i c
+unfolding frontIndex
+front-called words text o b i e c l l' z answer he hi hl hb hz ha =
+    let size : e - i ≡ length (block words i text) = rw he (sym (part-size i (min (i + count words) (length text)) text (omega arith))) in
+    let operand : b ≡ operandOf words (block words i text) = hb ∙ (λ t. operandOf words (take (he t - i) (drop i text))) in
+    let len : z ≡ pos (length (block words i text)) = hz ∙ ap pos size in
+    ap (λ (r : IndexAnswer). r .index) ha ∙ (λ t. PCMPESTRI o (hl t) (operand t) (len t) c .index)
 
 -- ---- the blocks of a text
+
+-- every element before i belongs
+abbrev pub ClearTo : Bool → Bool → Bool → List ℕ → List ℕ → ℕ → Type 0
+ClearTo words ranges signed list text i = (j : ℕ) → j < i → not (belongs words ranges signed list (getD text j 0)) ≡ false
+
+pub clear-to-start : (words ranges signed : Bool) (list text : List ℕ) → ClearTo words ranges signed list text 0
+clear-to-start words ranges signed list text j h = absurd (omega arith)
 
 module _ (words ranges signed : Bool) (list text : List ℕ) where
   abbrev outsideAt : ℕ → Bool
   outsideAt j = not (belongs words ranges signed list (getD text j 0))
 
-  -- every element before i belongs
-  abbrev pub ClearTo : ℕ → Type 0
-  ClearTo i = (j : ℕ) → j < i → outsideAt j ≡ false
-
-  pub clear-to-start : ClearTo 0
-  clear-to-start j h = absurd (omega arith)
-
   -- past the last block
-  pub span-whole : (i : ℕ) → i ≡ length text → ClearTo i → i ≡ spanLength (belongs words ranges signed list) text
+  pub span-whole : (i : ℕ) → i ≡ length text → ClearTo words ranges signed list text i → i ≡ spanLength (belongs words ranges signed list) text
   unfolding spanLength
   span-whole i e clear = e ∙ sym (least-none (length text) outsideAt (λ j h. clear j (omega arith)))
 
-  -- the block from i to e, whose index is k
-  module _ (i e k : ℕ) (hl : length list ≤ count words) (he : e ≡ min (i + count words) (length text)) (hi : i < length text) (clear : ClearTo i) (hk : k ≡ compareIndex words (spanControl ranges signed) list (take (e - i) (drop i text))) where
-    abbrev bit : ℕ → Bool
-    bit = outside words ranges signed list (take (e - i) (drop i text))
+  -- the block from i on, whose index is k, as the loop asks for it
+  module _ (i k c : ℕ) (o : List ℕ) (l : ℤ) (ho : o ≡ operandOf words list) (hl : l ≡ pos (length list)) (hc : c ≡ spanControl ranges signed + cond words 1 0) (hs : length list ≤ count words) (hi : i < length text) (clear : ClearTo words ranges signed list text i) (hk : k ≡ frontIndex words o l text i c) where
+    abbrev size : ℕ
+    size = min (i + count words) (length text) - i
 
-    size : length (take (e - i) (drop i text)) ≡ e - i
-    size = part-size i e text (omega arith)
+    abbrev bit : ℕ → Bool
+    bit = outside words ranges signed list (block words i text)
+
+    block-size : length (block words i text) ≡ size
+    block-size = part-size i (min (i + count words) (length text)) text (omega arith)
+
+    compared : k ≡ compareIndex words (spanControl ranges signed) list (block words i text)
+    unfolding frontIndex compareIndex
+    compared = hk ∙ (λ t. PCMPESTRI (ho t) (hl t) (operandOf words (block words i text)) (pos (length (block words i text))) (hc t) .index)
 
     least : k ≡ leastBelow (count words) bit
-    least = hk ∙ span-index list (take (e - i) (drop i text)) words ranges signed hl (omega (arith, size))
+    least = compared ∙ span-index list (block words i text) words ranges signed hs (omega (arith, block-size))
 
-    inside : (j : ℕ) → j < e - i → bit j ≡ outsideAt (i + j)
+    inside : (j : ℕ) → j < size → bit j ≡ outsideAt (i + j)
     inside j h =
-        rw (size, lt-ltb j (e - i) h)
-        (ap (λ (x : ℕ). not (belongs words ranges signed list x)) (getD-take (e - i) (drop i text) j 0 h ∙ getD-drop i text j 0))
+        rw (block-size, lt-ltb j size h)
+        (ap (λ (x : ℕ). not (belongs words ranges signed list x)) (getD-take size (drop i text) j 0 h ∙ getD-drop i text j 0))
 
-    past : (j : ℕ) → e - i ≤ j → bit j ≡ true
-    past j h = rw (size, le-ltb j (e - i) h)
+    past : (j : ℕ) → size ≤ j → bit j ≡ true
+    past j h = rw (block-size, le-ltb j size h)
 
     below : (j : ℕ) → j < k → bit j ≡ false
     below j h = least-before (count words) bit j (rw least at h)
 
-    before : (j : ℕ) → j < i + k → j < e → outsideAt j ≡ false
+    -- the bit past the block's end is set, so the index is the block's size at most
+    within-block : size < count words → k ≤ size
+    within-block h =
+        by-order size k
+        (λ u. absurd (let t : bit size ≡ true = past size (omega arith) in
+        let f : bit size ≡ false = below size u in
+        let z : _≡_ {A = ℕ} 0 1 = cc in omega arith))
+        (λ u. u)
+
+    before : (j : ℕ) → j < i + k → j < i + size → outsideAt j ≡ false
     before j h g =
         by-order j i (clear j)
         (λ u. let d : i + (j - i) ≡ j = omega arith in rw d at (sym (inside (j - i) (omega arith)) ∙ below (j - i) (omega arith)))
 
-    -- the whole block belongs
-    pub span-goes-on : count words ≤ k → ClearTo e
-    span-goes-on h j g = before j (omega arith) g
+    -- The whole block belongs. Only a block that is whole has an index of b.
+    whole : count words ≤ k → size ≡ count words
+    whole h = by-order size (count words) (λ u. absurd (omega (arith, within-block u))) (λ u. omega arith)
+
+    pub span-goes-on : count words ≤ k → (i + count words ≤ length text) × ClearTo words ranges signed list text (i + count words)
+    span-goes-on h = (omega (arith, whole h), λ j g. before j (omega arith) (omega (arith, whole h)))
 
     -- Where k is not in the block, the block is the text's last and belongs whole.
     pub span-ends : k < count words → i + k ≡ spanLength (belongs words ranges signed list) text
     unfolding spanLength
     span-ends h =
         let set : bit k ≡ true = rw (sym least) at (least-passes (count words) bit (rw (sym least) h)) in
-        by-order k (e - i)
+        by-order k size
         (λ g. sym (least-at (length text) outsideAt (i + k) (omega arith) (λ j u. before j u (omega arith)) (sym (inside k g) ∙ set)))
-        (λ g. by-order (e - i) k
-        (λ u. absurd (let t : bit (e - i) ≡ true = past (e - i) (omega arith) in
-        let f : bit (e - i) ≡ false = below (e - i) u in
-        let z : _≡_ {A = ℕ} 0 1 = cc in omega arith))
-        (λ u. span-whole (i + k) (omega arith) (λ j v. before j v (omega arith))))
+        (λ g. span-whole (i + k) (omega (arith, within-block (omega arith))) (λ j v. before j v (omega (arith, within-block (omega arith)))))

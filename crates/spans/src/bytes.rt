@@ -3,20 +3,19 @@ ghost use mathlib.Core.Path.{_≡_};
 ghost use mathlib.Core.Bool.{false};
 ghost use Prim.Native.Nat.{_≤_};
 ghost use lib.ListN.{length};
-ghost use lib.IntN.{pos};
-ghost use Rattle.blocks.specs.Blocks.{longestText, operandOf};
-ghost use Rattle.pcmpstr.specs.Calls.{PCMPESTRI};
+ghost use Rattle.blocks.specs.Blocks.{longestText};
 ghost use Rattle.spans.specs.Spans.{boundsRefusal, rangeSpan, setRefusal, setSpan, spanLength};
-ghost use Rattle.spans.specs.Parts.{belongs};
+ghost use Rattle.spans.specs.Parts.{belongs, frontIndex};
 
-// How many bytes at the front of a block belong: the first that does not is what the unit finds.
-// `list` is the operand of a set or of bounds.
-fn front(list: [u8; 16], l: i32, block: &[u8], control: u8) -> usize
-    requires { ⌜ length (now block) ≤ 16 ⌝ }
-    ensures { λ r. ⌜ r ≡ PCMPESTRI list l (operandOf false (now (block .entry))) (pos (length (now (block .entry)))) control .index ⌝ }
+// How many bytes belong at the front of the block that begins at i: the first that does not is what
+// the unit finds. `list` is the operand of a set or of bounds.
+fn front(list: [u8; 16], l: i32, text: &[u8], i: usize, control: u8) -> usize
+    requires { ⌜ (i ≤ length (now text)) × (length (now text) ≤ longestText) ⌝ }
+    ensures { λ r. ⌜ r ≡ frontIndex false list l (now (text .entry)) i control ⌝ }
 {
-    let l2 = block.len() as i32;
-    let answer = pcmpstr::pcmpestri(list, l, blocks::padded_bytes(block), l2, control);
+    let e = blocks::lesser(i + 16, text.len());
+    let block = blocks::padded_bytes(&text[i..e]);
+    let answer = pcmpstr::pcmpestri(list, l, block, (e - i) as i32, control);
     answer.index as usize
 }
 
@@ -26,18 +25,16 @@ fn length_of_span(text: &[u8], list: &[u8], ranges: bool, signed: bool) -> usize
     requires { ⌜ (length (now text) ≤ longestText) × (length (now list) ≤ 16) ⌝ }
     ensures { λ r. ⌜ r ≡ spanLength (belongs false ranges signed (now (list .entry))) (now (text .entry)) ⌝ }
 {
-    let n = text.len();
     let operand = blocks::padded_bytes(list);
     let l = list.len() as i32;
     let control = crate::span_control(ranges, signed);
     let mut i = 0;
-    while i < n {
-        let e = blocks::lesser(i + 16, n);
-        let belong = front(operand, l, &text[i..e], control);
+    while i < text.len() {
+        let belong = front(operand, l, text, i, control);
         if belong < 16 {
             return i + belong;
         }
-        i = e;
+        i += 16;
     }
     i
 }

@@ -1,20 +1,20 @@
--- `spans::bytes::length_of_span` meets its contract. The invariant: no element before i fails to belong. Assumes nothing.
+-- `spans::bytes::length_of_span` meets its contract. The invariant: every element before i belongs.
+-- Assumes nothing.
 use Prim.Native.Nat.{_-_, _≤_}
-use mathlib.Core.Path.{_≡_, refl, _∙_}
-use mathlib.Core.Bool.{true, false}
-use lib.ListN.{length, length-take, length-drop}
+use mathlib.Core.Bool.{false}
+use lib.ListN.{length}
 use mir.Syntax.{w32}
 use mir.ValLaws.{toZ-pos}
 use native.Mathlib.Omega.{arith}
-use Rattle.spans.proofs.Indexes.{ClearTo, clear-to-start, span-called, span-ends, span-goes-on, span-whole}
+use Rattle.spans.proofs.Indexes.{ClearTo, clear-to-start, span-ends, span-goes-on, span-whole}
 use Rattle.spans.proofs.bytes.length_of_span.Statement.{statement}
 use Rattle.spans.proofs.bytes.length_of_span.Tie as tie
 
 abbrev Inv-loop : tie.InvT-loop
-Inv-loop text list ranges signed n operand l control i₀ i = (i ≤ length text) × ClearTo false ranges signed list text i
+Inv-loop text list ranges signed operand l control i₀ i = (i ≤ length text) × ClearTo false ranges signed list text i
 
 abbrev μ-loop : tie.MeasureT-loop
-μ-loop text list ranges signed n operand l control i₀ i = length text - i
+μ-loop text list ranges signed operand l control i₀ i = length text - i
 
 padded-bytes-requires : tie.Need-padded-bytes-requires Inv-loop μ-loop
 padded-bytes-requires c κs = tt
@@ -30,41 +30,37 @@ loop-holds c =
     let a = c .before .before .before .before .args in
     (omega arith, clear-to-start false (a .ranges) (a .signed) (a .list .now) (a .text .now))
 
-add-lesser : tie.Need-add-lesser Inv-loop μ-loop
-add-lesser c = omega arith
-
-lesser-requires : tie.Need-lesser-requires Inv-loop μ-loop
-lesser-requires c κs = tt
-
-sub-front : tie.Need-sub-front Inv-loop μ-loop
-sub-front c = omega (arith, c .lesser .ensures)
-
-part-front-start : tie.Need-part-front-start Inv-loop μ-loop
-part-front-start c = omega (arith, c .lesser .ensures)
-
-part-front-end : tie.Need-part-front-end Inv-loop μ-loop
-part-front-end c = omega (arith, c .lesser .ensures)
-
 front-requires : tie.Need-front-requires Inv-loop μ-loop
-front-requires c κs = rw (length-take, length-drop) (omega (arith, c .before .lesser .ensures))
+front-requires c κs = (omega arith, omega arith)
 
 add-result : tie.Need-add-result Inv-loop μ-loop
 add-result c = omega arith
 
 returns : tie.Need-returns Inv-loop μ-loop
 returns c =
-    let l = c .before .before .before .before .before in
-    let a = l .before .before .before .before .before .args in
-    span-ends false (a .ranges) (a .signed) (a .list .now) (a .text .now) (l .loop .i) (c .before .before .before .lesser .result) (c .before .front .result) (omega arith) (c .before .before .before .lesser .ensures) (omega arith) (l .loop .inv .1) (c .before .front .ensures ∙ span-called false (a .ranges) (a .signed) (a .list .now) _ _ _ _ _ _ (l .before .before .padded-bytes .ensures) (toZ-pos w32 (length (a .list .now)) (omega arith)) refl refl (omega (arith, l .before .span-control .ensures))) (omega arith)
+    let at-loop = c .before .before .before in
+    let o = at-loop .before .before .padded-bytes in
+    let v = at-loop .before .span-control in
+    let a = at-loop .before .before .before .before .before .args in
+    let k = c .before .front in
+    span-ends false (a .ranges) (a .signed) (a .list .now) (a .text .now) (at-loop .loop .i) (k .result) _ (o .result) _
+    (o .ensures) (toZ-pos w32 (length (a .list .now)) (omega arith)) (omega (arith, v .ensures)) (omega arith) (omega arith) (at-loop .loop .inv .1) (k .ensures) (omega arith)
+
+add-i : tie.Need-add-i Inv-loop μ-loop
+add-i c = omega arith
 
 loop-less : tie.Need-loop-less Inv-loop μ-loop
-loop-less c = omega (arith, c .before .before .before .lesser .ensures)
+loop-less c = omega arith
 
 loop-again : tie.Need-loop-again Inv-loop μ-loop
 loop-again c =
-    let l = c .before .before .before .before .before in
-    let a = l .before .before .before .before .before .args in
-    (omega (arith, c .before .before .before .lesser .ensures), span-goes-on false (a .ranges) (a .signed) (a .list .now) (a .text .now) (l .loop .i) (c .before .before .before .lesser .result) (c .before .front .result) (omega arith) (c .before .before .before .lesser .ensures) (omega arith) (l .loop .inv .1) (c .before .front .ensures ∙ span-called false (a .ranges) (a .signed) (a .list .now) _ _ _ _ _ _ (l .before .before .padded-bytes .ensures) (toZ-pos w32 (length (a .list .now)) (omega arith)) refl refl (omega (arith, l .before .span-control .ensures))) (omega arith))
+    let at-loop = c .before .before .before in
+    let o = at-loop .before .before .padded-bytes in
+    let v = at-loop .before .span-control in
+    let a = at-loop .before .before .before .before .before .args in
+    let k = c .before .front in
+    span-goes-on false (a .ranges) (a .signed) (a .list .now) (a .text .now) (at-loop .loop .i) (k .result) _ (o .result) _
+    (o .ensures) (toZ-pos w32 (length (a .list .now)) (omega arith)) (omega (arith, v .ensures)) (omega arith) (omega arith) (at-loop .loop .inv .1) (k .ensures) (omega arith)
 
 returns-2 : tie.Need-returns-2 Inv-loop μ-loop
 returns-2 c =
@@ -82,14 +78,10 @@ length-of-span-spec =
     cast-l
     span-control-requires
     loop-holds
-    add-lesser
-    lesser-requires
-    sub-front
-    part-front-start
-    part-front-end
     front-requires
     add-result
     returns
+    add-i
     loop-less
     loop-again
     returns-2)
