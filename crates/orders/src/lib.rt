@@ -52,7 +52,7 @@ fn order_of_lengths(n: usize, m: usize) -> i32
     if n < m {
         return -1;
     }
-    if m < n {
+    if n > m {
         return 1;
     }
     0

@@ -17,7 +17,7 @@ module _ (belongs : ℕ → Bool) (text : List ℕ) where
 
   pub within : spanLength belongs text ≤ length text
   unfolding spanLength
-  within = least-within (length text) outside
+  within = least-within (length text) _
 
   long : length (span belongs text) ≡ spanLength belongs text
   long = rw length-take (omega (arith, within))
