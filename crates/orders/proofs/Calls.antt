@@ -13,11 +13,12 @@ use mir.Syntax.{w16, w32}
 use mir.Val.{SFits, toZ, ofZ}
 use mir.ValLaws.{toZ-ofZ}
 use mir.Facts.{sfits-widen}
-use borrow.Author.Tests.{ltb-false, lt-ltb, le-ltb, eq-eqb, ne-eqb}
+use borrow.Author.Tests.{ltb-false, eq-eqb, ne-eqb}
 use Rattle.pcmpstr.specs.Operand.{valueOf}
 use Rattle.blocks.specs.Blocks.{longestText}
 use Rattle.orders.specs.declared.OrderAnswer.{OrderAnswer}
 use Rattle.orders.specs.Orders.{difference, sign, orderAt, order, orderRefusal, orderAnswer, isSecond, lesserText}
+use Rattle.orders.proofs.Order.{at-elements, at-end}
 
 -- ---- accepted
 
@@ -50,17 +51,11 @@ module _ (words signed : Bool) (x y : List ℕ) where
     -- at the first difference, and with none
     pub by-elements : k < min (length x) (length y) → z ≡ sign (valueOf words signed (getD x k 0)) (valueOf words signed (getD y k 0)) → z ≡ order words signed x y
     unfolding order
-    by-elements h e =
-        e
-        ∙ ap (λ (t : Bool). cond t (sign (valueOf words signed (getD x k 0)) (valueOf words signed (getD y k 0))) (sign (pos (length x)) (pos (length y)))) (sym (lt-ltb k (min (length x) (length y)) h))
-        ∙ ap (orderAt (valueOf words signed) x y) d
+    by-elements h e = e ∙ sym (at-elements (valueOf words signed) x y k h) ∙ ap (orderAt (valueOf words signed) x y) d
 
     pub by-lengths : min (length x) (length y) ≤ k → z ≡ sign (pos (length x)) (pos (length y)) → z ≡ order words signed x y
     unfolding order
-    by-lengths h e =
-        e
-        ∙ ap (λ (t : Bool). cond t (sign (valueOf words signed (getD x k 0)) (valueOf words signed (getD y k 0))) (sign (pos (length x)) (pos (length y)))) (sym (le-ltb k (min (length x) (length y)) h))
-        ∙ ap (orderAt (valueOf words signed) x y) d
+    by-lengths h e = e ∙ sym (at-end (valueOf words signed) x y k h) ∙ ap (orderAt (valueOf words signed) x y) d
 
   module _ (r : ℕ) (e : r ≡ orderRefusal (length x) (length y)) where
     refused : 0 < r → eqb (orderRefusal (length x) (length y)) 0 ≡ false

@@ -227,3 +227,12 @@ is-order words signed =
     let value : ℕ → ℤ = valueOf words signed in
     let size : ℕ = 2 ^ bitsOf words in
     record { antisymmetric = exchanged value; transitive = handed-on value size (values-apart words signed); equal-gives-zero = itself value; zero-only-for-equal = zero-equal value size (values-apart words signed) }
+
+-- ---- the order from a place, for the code
+
+module _ (value : ℕ → ℤ) (x y : List ℕ) (k : ℕ) where
+  pub at-elements : k < min (length x) (length y) → orderAt value x y k ≡ sign (value (getD x k 0)) (value (getD y k 0))
+  at-elements h = rw (lt-ltb k (min (length x) (length y)) h)
+
+  pub at-end : min (length x) (length y) ≤ k → orderAt value x y k ≡ sign (pos (length x)) (pos (length y))
+  at-end h = rw (le-ltb k (min (length x) (length y)) h)
