@@ -1,4 +1,5 @@
-// The order of two texts. An exported call can't return a reference, so `hx_lesser_..` tells which of the two texts is the smaller.
+// The order of two texts. An exported call can't return a reference, so `hx_lesser_..` tells which
+// of the two texts is the smaller.
 use crate::truth;
 use crate::weighed;
 use orders::OrderAnswer;

@@ -1,4 +1,5 @@
-// Leading runs. The part begins where the text does, so its length is all there is to tell; the number of the companion call comes with it.
+// Leading runs. The part begins where the text does, so its length is all there is to tell; the
+// number of the companion call comes with it.
 use crate::truth;
 use spans::bytes;
 use spans::words;

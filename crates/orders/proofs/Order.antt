@@ -1,6 +1,6 @@
--- The order of two texts is an order: exchanged texts exchange -1 and 1, what is not above goes on from text to text, and 0 stands for equal
--- texts alone. The texts' elements are those of a width, so that two of them stand for one number only where they are equal.
--- Assumes nothing.
+-- The order of two texts is an order: exchanged texts exchange -1 and 1, what is not above goes on
+-- from text to text, and 0 stands for equal texts alone. The texts' elements are those of a width,
+-- so that two of them stand for one number only where they are equal. Assumes nothing.
 use Prim.Native.Nat.{ℕ, suc, _-_, _^_, _≤_, _<_, min}
 use mathlib.Core.Path.{_≡_, refl, sym, ap, _∙_}
 use mathlib.Core.Bool.{Bool, true, false, cond}

@@ -1,5 +1,5 @@
--- The order of two texts (document 01, "Runs, order and columns"): at the first difference the smaller element decides; if one is the front of
--- the other, the shorter is smaller.
+-- The order of two texts (document 01, "Runs, order and columns"): at the first difference the
+-- smaller element decides; if one is the front of the other, the shorter is smaller.
 use Prim.Native.Nat.{ℕ, _^_, _<_, min}
 use mathlib.Core.Path.{_≡_}
 use mathlib.Core.Bool.{Bool, true, cond, not, _&&_, _||_}

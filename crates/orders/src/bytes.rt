@@ -7,7 +7,6 @@ ghost use lib.ListN.{length};
 ghost use Rattle.blocks.specs.Blocks.{longestText};
 ghost use Rattle.pcmpstr.specs.Operand.{valueOf};
 ghost use Rattle.orders.specs.Orders.{difference, isSecond, lesserText, order, orderAnswer, orderRefusal};
-ghost use Rattle.orders.specs.Parts.{BlockWithin, blockDifference};
 
 // The number that a byte stands for, in two's complement where signed.
 fn value(signed: bool, x: u8) -> i16
@@ -20,16 +19,6 @@ fn value(signed: bool, x: u8) -> i16
     }
 }
 
-// The first place, from i on, where the block that begins there differs in two texts, or 16. Both
-// texts go on to n at least.
-fn block_difference(first: &[u8], second: &[u8], i: usize, n: usize) -> usize
-    requires { ⌜ BlockWithin (now first) (now second) i n ⌝ }
-    ensures { λ r. ⌜ r ≡ blockDifference false (now (first .entry)) (now (second .entry)) i n ⌝ }
-{
-    let e = blocks::lesser(i + 16, n);
-    blocks::bytes_differ_at(&first[i..e], &second[i..e]) as usize
-}
-
 // The first place where two texts differ, or the end of the shorter. Equal stretches go by in
 // blocks.
 fn difference(first: &[u8], second: &[u8]) -> usize
@@ -39,13 +28,14 @@ fn difference(first: &[u8], second: &[u8]) -> usize
     let n = blocks::lesser(first.len(), second.len());
     let mut i = 0;
     while i < n {
-        let k = block_difference(first, second, i, n);
+        let e = blocks::lesser(i + 16, n);
+        let k = blocks::bytes_differ_at(&first[i..e], &second[i..e]) as usize;
         if k < 16 {
             return i + k;
         }
-        i += 16;
+        i = e;
     }
-    n
+    i
 }
 
 // The order of two texts.

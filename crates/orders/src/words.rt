@@ -7,7 +7,6 @@ ghost use lib.ListN.{length};
 ghost use Rattle.blocks.specs.Blocks.{longestText};
 ghost use Rattle.pcmpstr.specs.Operand.{valueOf};
 ghost use Rattle.orders.specs.Orders.{difference, isSecond, lesserText, order, orderAnswer, orderRefusal};
-ghost use Rattle.orders.specs.Parts.{BlockWithin, blockDifference};
 
 // The number that a word stands for, in two's complement where signed.
 fn value(signed: bool, x: u16) -> i32
@@ -24,16 +23,6 @@ fn value(signed: bool, x: u16) -> i32
     }
 }
 
-// The first place, from i on, where the block that begins there differs in two texts, or 8. Both
-// texts go on to n at least.
-fn block_difference(first: &[u16], second: &[u16], i: usize, n: usize) -> usize
-    requires { ⌜ BlockWithin (now first) (now second) i n ⌝ }
-    ensures { λ r. ⌜ r ≡ blockDifference true (now (first .entry)) (now (second .entry)) i n ⌝ }
-{
-    let e = blocks::lesser(i + 8, n);
-    blocks::words_differ_at(&first[i..e], &second[i..e]) as usize
-}
-
 // The first place where two texts differ, or the end of the shorter. Equal stretches go by in
 // blocks.
 fn difference(first: &[u16], second: &[u16]) -> usize
@@ -43,13 +32,14 @@ fn difference(first: &[u16], second: &[u16]) -> usize
     let n = blocks::lesser(first.len(), second.len());
     let mut i = 0;
     while i < n {
-        let k = block_difference(first, second, i, n);
+        let e = blocks::lesser(i + 8, n);
+        let k = blocks::words_differ_at(&first[i..e], &second[i..e]) as usize;
         if k < 8 {
             return i + k;
         }
-        i += 8;
+        i = e;
     }
-    n
+    i
 }
 
 // The order of two texts.

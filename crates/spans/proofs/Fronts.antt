@@ -1,5 +1,6 @@
--- What a span is: the front of the text up to the first element that does not belong. All of it belongs, it is the whole text or the next element
--- does not belong, and no longer front belongs whole. Assumes nothing.
+-- What a span is: the front of the text up to the first element that does not belong. All of it
+-- belongs, it is the whole text or the next element does not belong, and no longer front belongs
+-- whole. Assumes nothing.
 use Prim.Native.Nat.{ℕ, _≤_, _<_}
 use mathlib.Core.Path.{_≡_}
 use mathlib.Core.Bool.{Bool, true, false, not}

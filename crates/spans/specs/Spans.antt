@@ -1,5 +1,5 @@
--- Leading runs (document 01, "Runs, order and columns"): the longest front of a text whose elements all belong to a set, or to one of some
--- ranges. `words` is the width; b is `count words`.
+-- Leading runs (document 01, "Runs, order and columns"): the longest front of a text whose elements
+-- all belong to a set, or to one of some ranges. `words` is the width; b is `count words`.
 use Prim.Native.Nat.{ℕ, _+_, _*_, _/_, _%_, _≤_, _<_}
 use mathlib.Core.Path.{_≡_}
 use mathlib.Core.Bool.{Bool, true, false, cond, not, _&&_}
@@ -16,7 +16,8 @@ use Rattle.blocks.specs.Blocks.{longestText}
 abbrev pub inSet : List ℕ → ℕ → Bool
 inSet set x = anyBelow (length set) (λ i. eqb x (getD set i 0))
 
--- x lies in one of the ranges that the bounds give in pairs, low then high, `value` being what an element stands for
+-- x lies in one of the ranges that the bounds give in pairs, low then high, `value` being what an
+-- element stands for
 abbrev pub inRanges : (ℕ → ℤ) → List ℕ → ℕ → Bool
 inRanges value bounds x =
     anyBelow (length bounds / 2) (λ i. leZ (value (getD bounds (2 * i) 0)) (value x) && leZ (value x) (value (getD bounds (2 * i + 1) 0)))
@@ -29,7 +30,8 @@ spanLength belongs text = leastBelow (length text) (λ j. not (belongs (getD tex
 abbrev pub span : (ℕ → Bool) → List ℕ → List ℕ
 span belongs text = take (spanLength belongs text) text
 
--- The part s is the longest front of the text whose elements all belong. proofs/Fronts.antt shows this of every span.
+-- The part s is the longest front of the text whose elements all belong. proofs/Fronts.antt shows
+-- this of every span.
 pub record LongestFront (belongs : ℕ → Bool) (text s : List ℕ) : Type 0 where
   pub front : s ≡ take (length s) text
   pub all-belong : (j : ℕ) → j < length s → belongs (getD text j 0) ≡ true

@@ -46,8 +46,8 @@ pub fn span_refusal(text: &[u8], set: &[u8]) -> u32
     crate::set_refusal(false, text.len(), set.len())
 }
 
-// The longest front of a text whose bytes are all in a set (document 01: the leading run). It is that
-// part of the text itself: it begins where the text begins.
+// The longest front of a text whose bytes are all in a set (document 01: the leading run). It is
+// that part of the text itself: it begins where the text begins.
 pub fn span<'a>(text: &'a [u8], set: &[u8]) -> &'a [u8]
     ensures { λ r. ⌜ (r .ptr ≡ text .entry .ptr) × (now r ≡ setSpan false (now (text .entry)) (now (set .entry))) ⌝ }
 {
@@ -65,8 +65,8 @@ pub fn range_span_refusal(text: &[u8], bounds: &[u8], _signed: bool) -> u32
     crate::bounds_refusal(false, text.len(), bounds.len())
 }
 
-// The longest front of a text whose bytes each lie in one of some ranges, given as a list of low and
-// high bounds in pairs.
+// The longest front of a text whose bytes each lie in one of some ranges, given as a list of low
+// and high bounds in pairs.
 pub fn range_span<'a>(text: &'a [u8], bounds: &[u8], signed: bool) -> &'a [u8]
     ensures { λ r. ⌜ (r .ptr ≡ text .entry .ptr) × (now r ≡ rangeSpan false signed (now (text .entry)) (now (bounds .entry))) ⌝ }
 {

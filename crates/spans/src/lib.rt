@@ -4,8 +4,8 @@
 // Public calls, in each of the modules `bytes` and `words`:
 // - `span` and `range_span` give back the longest front of a text whose elements all belong to a
 //   set, or to one of some ranges;
-// - `span_refusal` and `range_span_refusal` take the same arguments and tell the number that refuses
-//   the call, or 0.
+// - `span_refusal` and `range_span_refusal` take the same arguments and tell the number that
+//   refuses the call, or 0.
 // This file has what is the same for both widths.
 pub mod bytes;
 pub mod words;

@@ -46,8 +46,8 @@ pub fn span_refusal(text: &[u16], set: &[u16]) -> u32
     crate::set_refusal(true, text.len(), set.len())
 }
 
-// The longest front of a text whose words are all in a set (document 01: the leading run). It is that
-// part of the text itself: it begins where the text begins.
+// The longest front of a text whose words are all in a set (document 01: the leading run). It is
+// that part of the text itself: it begins where the text begins.
 pub fn span<'a>(text: &'a [u16], set: &[u16]) -> &'a [u16]
     ensures { λ r. ⌜ (r .ptr ≡ text .entry .ptr) × (now r ≡ setSpan true (now (text .entry)) (now (set .entry))) ⌝ }
 {
@@ -65,8 +65,8 @@ pub fn range_span_refusal(text: &[u16], bounds: &[u16], _signed: bool) -> u32
     crate::bounds_refusal(true, text.len(), bounds.len())
 }
 
-// The longest front of a text whose words each lie in one of some ranges, given as a list of low and
-// high bounds in pairs.
+// The longest front of a text whose words each lie in one of some ranges, given as a list of low
+// and high bounds in pairs.
 pub fn range_span<'a>(text: &'a [u16], bounds: &[u16], signed: bool) -> &'a [u16]
     ensures { λ r. ⌜ (r .ptr ≡ text .entry .ptr) × (now r ≡ rangeSpan true signed (now (text .entry)) (now (bounds .entry))) ⌝ }
 {

@@ -1,4 +1,5 @@
--- `spans::bounds_refusal` meets its contract: bounds are refused as a set is, and where they are odd. Assumes nothing.
+-- `spans::bounds_refusal` meets its contract: bounds are refused as a set is, and where they are
+-- odd. Assumes nothing.
 use native.Mathlib.Omega.{arith}
 use borrow.Author.Needs.{needs}
 use borrow.Author.Tests.{eq-eqb, ne-eqb}

@@ -1,4 +1,5 @@
--- `spans::set_refusal` meets its contract: each test is the definition's, in the same order. Assumes nothing.
+-- `spans::set_refusal` meets its contract: each test is the definition's, in the same order.
+-- Assumes nothing.
 use native.Mathlib.Omega.{arith}
 use borrow.Author.Needs.{needs}
 use borrow.Author.Tests.{lt-ltb, le-ltb}

@@ -1,4 +1,5 @@
--- `orders::bytes::lesser` meets its contract: the second text only where the order is 1. Assumes nothing.
+-- `orders::bytes::lesser` meets its contract: the second text only where the order is 1. Assumes
+-- nothing.
 use mathlib.Core.Path.{_∙_}
 use mathlib.Core.Bool.{false}
 use lib.ListN.{length}

@@ -1,5 +1,5 @@
--- `orders::bytes::order` meets its contract: at the first difference the values decide, and with none
--- the lengths. Assumes nothing.
+-- `orders::bytes::order` meets its contract: at the first difference the values decide, and with
+-- none the lengths. Assumes nothing.
 use mathlib.Core.Path.{_∙_}
 use mathlib.Core.Bool.{false}
 use mir.Syntax.{w32}

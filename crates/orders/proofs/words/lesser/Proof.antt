@@ -1,4 +1,5 @@
--- `orders::words::lesser` meets its contract: the second text only where the order is 1. Assumes nothing.
+-- `orders::words::lesser` meets its contract: the second text only where the order is 1. Assumes
+-- nothing.
 use mathlib.Core.Path.{_∙_}
 use mathlib.Core.Bool.{true}
 use lib.ListN.{length}

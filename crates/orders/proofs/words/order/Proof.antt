@@ -1,5 +1,5 @@
--- `orders::words::order` meets its contract: at the first difference the values decide, and with none
--- the lengths. Assumes nothing.
+-- `orders::words::order` meets its contract: at the first difference the values decide, and with
+-- none the lengths. Assumes nothing.
 use mathlib.Core.Path.{_∙_}
 use mathlib.Core.Bool.{true}
 use mir.Syntax.{w32}

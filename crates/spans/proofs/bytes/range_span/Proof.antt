@@ -1,4 +1,5 @@
--- `spans::bytes::range_span` meets its contract: refused, it gives the empty front; accepted, the front as long as the span. Assumes nothing.
+-- `spans::bytes::range_span` meets its contract: refused, it gives the empty front; accepted, the
+-- front as long as the span. Assumes nothing.
 use mathlib.Core.Path.{refl}
 use mathlib.Core.Bool.{true, false}
 use lib.ListN.{length, length-take}

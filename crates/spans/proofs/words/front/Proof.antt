@@ -1,5 +1,5 @@
--- `spans::words::front` meets its contract: the operand is the block's, and its length fits 32 bits.
--- Assumes nothing.
+-- `spans::words::front` meets its contract: the operand is the block's, and its length fits 32
+-- bits. Assumes nothing.
 use Prim.Native.Nat.{_-_}
 use mathlib.Core.Bool.{true}
 use mir.Syntax.{w32}
