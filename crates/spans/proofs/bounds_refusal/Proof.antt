@@ -1,7 +1,6 @@
 -- `spans::bounds_refusal` meets its contract: bounds are refused as a set is, and where they are
 -- odd. Assumes nothing.
 use native.Mathlib.Omega.{arith}
-use borrow.Author.Needs.{needs}
 use borrow.Author.Tests.{eq-eqb, ne-eqb}
 use Rattle.spans.specs.Spans.{setRefusal}
 use Rattle.spans.proofs.Calls.{bounds-by-set}
@@ -9,7 +8,7 @@ use Rattle.spans.proofs.bounds_refusal.Statement.{statement}
 use Rattle.spans.proofs.bounds_refusal.Tie as tie
 
 set-refusal-requires : tie.Need-set-refusal-requires
-set-refusal-requires c κs = search needs
+set-refusal-requires c κs = tt
 
 returns : tie.Need-returns
 returns c =

@@ -1,7 +1,6 @@
 -- `spans::set_refusal` meets its contract: each test is the definition's, in the same order.
 -- Assumes nothing.
 use native.Mathlib.Omega.{arith}
-use borrow.Author.Needs.{needs}
 use borrow.Author.Tests.{lt-ltb, le-ltb}
 use Rattle.pcmpstr.specs.Operand.{count}
 use Rattle.blocks.specs.Blocks.{longestText}
@@ -14,7 +13,7 @@ unfolding setRefusal
 returns c = let a = c .before .args in rw (lt-ltb longestText (a .n) (c .if1 .taken))
 
 count-of-requires : tie.Need-count-of-requires
-count-of-requires c κs = search needs
+count-of-requires c κs = tt
 
 returns-2 : tie.Need-returns-2
 unfolding setRefusal

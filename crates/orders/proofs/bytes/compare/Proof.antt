@@ -5,13 +5,12 @@ use lib.ListN.{length}
 use mir.Syntax.{w32}
 use mir.ValLaws.{toZ-ofZ}
 use native.Mathlib.Omega.{arith}
-use borrow.Author.Needs.{needs}
 use Rattle.orders.proofs.Calls.{order-accepted, answer-refused, answer-given}
 use Rattle.orders.proofs.bytes.compare.Statement.{statement}
 use Rattle.orders.proofs.bytes.compare.Tie as tie
 
 order-refusal-requires : tie.Need-order-refusal-requires
-order-refusal-requires c κs = search needs
+order-refusal-requires c κs = tt
 
 returns : tie.Need-returns
 returns c =

@@ -12,7 +12,7 @@ use Rattle.orders.proofs.words.lesser.Statement.{statement}
 use Rattle.orders.proofs.words.lesser.Tie as tie
 
 lesser-refusal-requires : tie.Need-lesser-refusal-requires
-lesser-refusal-requires c κs = search needs
+lesser-refusal-requires c κs = tt
 
 slice-aggregate-result : tie.Need-slice-aggregate-result
 slice-aggregate-result c = search needs

@@ -12,7 +12,7 @@ use Rattle.spans.proofs.bytes.span.Statement.{statement}
 use Rattle.spans.proofs.bytes.span.Tie as tie
 
 span-refusal-requires : tie.Need-span-refusal-requires
-span-refusal-requires c κs = search needs
+span-refusal-requires c κs = tt
 
 slice-aggregate-result : tie.Need-slice-aggregate-result
 slice-aggregate-result c = search needs

@@ -12,7 +12,7 @@ use Rattle.spans.proofs.words.range_span.Statement.{statement}
 use Rattle.spans.proofs.words.range_span.Tie as tie
 
 range-span-refusal-requires : tie.Need-range-span-refusal-requires
-range-span-refusal-requires c κs = search needs
+range-span-refusal-requires c κs = tt
 
 slice-aggregate-result : tie.Need-slice-aggregate-result
 slice-aggregate-result c = search needs
