@@ -14,8 +14,8 @@ use Rattle.pcmpstr.specs.declared.MaskAnswer.{MaskAnswer}
 use Rattle.search.specs.declared.Cursor.{Cursor}
 use Rattle.search.specs.declared.Next.{Next}
 use Rattle.search.specs.declared.Next.the-variants.{Match, Absent, Refused}
-use Rattle.text.specs.declared.OrderAnswer.{OrderAnswer}
-use Rattle.text.specs.Orders.{isSecond, order, orderAnswer, orderRefusal}
+use Rattle.orders.specs.declared.OrderAnswer.{OrderAnswer}
+use Rattle.orders.specs.Orders.{isSecond, order, orderAnswer, orderRefusal}
 use Rattle.report.specs.declared.ReportAnswer.{ReportAnswer}
 use Rattle.report.specs.Report.{linesOf, refusalOf, Reported}
 use Rattle.capi.specs.Crossing.{eflags, IndexGiven, LesserGiven, MaskGiven, NextGiven, NumberGiven, numbersOf, OrderGiven, ReportGiven, unlessRefused}

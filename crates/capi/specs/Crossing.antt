@@ -16,7 +16,7 @@ use Rattle.search.specs.declared.Next.{Next}
 use Rattle.search.specs.Cursors.{cursorAt}
 use Rattle.search.specs.Calls.{Said, found, absent, refused, said, cursorOf as nextCursor}
 use Rattle.report.specs.Report.{linesOf, refusalOf as reportRefusal}
-use Rattle.text.specs.declared.OrderAnswer.{OrderAnswer}
+use Rattle.orders.specs.declared.OrderAnswer.{OrderAnswer}
 
 -- what stands behind a pointer after a call with this refusal: 0 writes the new value, and any other number leaves the old one
 abbrev pub unlessRefused : {A : Type 0} → ℕ → A → A → A

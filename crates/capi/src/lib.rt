@@ -4,7 +4,7 @@
 // sixteen bytes behind a pointer, texts a pointer and a length. What crosses is defined in specs/Crossing.antt. This file has what several calls share.
 mod columns;
 mod order;
-mod spans;
+mod span;
 mod unit;
 mod walk;
 

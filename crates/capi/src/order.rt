@@ -1,12 +1,13 @@
-// The order of two texts. An exported call can't return a reference, so `hx_lesser_..` tells which of the two texts is the smaller.
+// The order of two texts. An exported call can't return a reference, so `hx_lesser_..` tells which
+// of the two texts is the smaller.
 use crate::truth;
 use crate::weighed;
-use text::OrderAnswer;
-use text::bytes;
-use text::words;
+use orders::OrderAnswer;
+use orders::bytes;
+use orders::words;
 ghost use mathlib.Core.Bool.{cond, false, true};
 ghost use lib.ListN.{length};
-ghost use Rattle.text.specs.Orders.{isSecond, orderAnswer, orderRefusal};
+ghost use Rattle.orders.specs.Orders.{isSecond, orderAnswer, orderRefusal};
 ghost use Rattle.capi.specs.Crossing.{LesserGiven, NumberGiven, OrderGiven, truth};
 
 // Hands an order to the caller.

@@ -2,8 +2,8 @@
 use borrow.Author.Needs.{needs}
 use mathlib.Core.Path.{ap, subst, _∙_}
 use mathlib.Core.Bool.{Bool, true}
-use Rattle.text.specs.declared.OrderAnswer.{OrderAnswer}
-use Rattle.text.specs.Orders.{orderAnswer}
+use Rattle.orders.specs.declared.OrderAnswer.{OrderAnswer}
+use Rattle.orders.specs.Orders.{orderAnswer}
 use Rattle.capi.specs.Crossing.{LesserGiven, truth}
 use Rattle.capi.proofs.Crossings.{which-is-second}
 use Rattle.capi.proofs.order.hx_lesser_in_words.Statement.{statement}
@@ -12,7 +12,7 @@ use Rattle.capi.proofs.order.hx_lesser_in_words.Reads as reads
 use Rattle.capi.proofs.order.hx_lesser_in_words.Lts as lts
 use Rattle.capi.proofs.order.give_lesser.Reads as give-lesser-reads
 use Rattle.capi.proofs.truth.Reads as truth-reads
-use Rattle.text.proofs.words.compare.Reads as compare-reads
+use Rattle.orders.proofs.words.compare.Reads as compare-reads
 
 truth-requires : tie.Need-truth-requires
 truth-requires c κs = search needs

@@ -1,0 +1,67 @@
+-- `spans::bytes::front` meets its contract: the operand is the block's, and its length fits 32
+-- bits. Assumes nothing.
+use Prim.Native.Nat.{_-_}
+use mathlib.Core.Bool.{false}
+use mir.Syntax.{w32}
+use mir.ValLaws.{toZ-pos, toZ-ofZ}
+use native.Mathlib.Omega.{arith}
+use Rattle.spans.proofs.Indexes.{front-called}
+use Rattle.spans.proofs.bytes.front.Statement.{statement}
+use Rattle.spans.proofs.bytes.front.Tie as tie
+
+add-lesser : tie.Need-add-lesser
+add-lesser c = omega arith
+
+lesser-requires : tie.Need-lesser-requires
+lesser-requires c κs = tt
+
+sub-padded-bytes : tie.Need-sub-padded-bytes
+sub-padded-bytes c = omega (arith, c .lesser .ensures)
+
+part-padded-bytes-start : tie.Need-part-padded-bytes-start
+part-padded-bytes-start c = omega (arith, c .lesser .ensures)
+
+part-padded-bytes-end : tie.Need-part-padded-bytes-end
+part-padded-bytes-end c = omega (arith, c .lesser .ensures)
+
+padded-bytes-requires : tie.Need-padded-bytes-requires
+padded-bytes-requires c κs = tt
+
+sub-pcmpestri : tie.Need-sub-pcmpestri
+sub-pcmpestri c = omega (arith, c .before .before .lesser .ensures)
+
+cast-pcmpestri : tie.Need-cast-pcmpestri
+cast-pcmpestri c = record { sfits = omega (arith, c .before .before .lesser .ensures) }
+
+pcmpestri-requires : tie.Need-pcmpestri-requires
+pcmpestri-requires c κs = tt
+
+cast-result : tie.Need-cast-result
+cast-result c = omega arith
+
+returns : tie.Need-returns
+returns c =
+    let u = c .before .pcmpestri in
+    let o = c .before .before .padded-bytes in
+    let at-end = c .before .before .before .before in
+    let e = at-end .lesser in
+    let s = at-end .before .before in
+    let a = s .args in
+    front-called false (a .text .now) (a .list) (o .result) (a .i) (e .result) (a .control) (a .l) _ _ (u .result)
+    (e .ensures) (omega arith) (toZ-ofZ w32 (a .l) (s .fits .l)) (o .ensures) (toZ-pos w32 (e .result - a .i) (omega (arith, e .ensures))) (u .ensures)
+
+pub front-spec : {M : Type 1} → statement M
+front-spec =
+    tie.close
+    (tie.spec
+    add-lesser
+    lesser-requires
+    sub-padded-bytes
+    part-padded-bytes-start
+    part-padded-bytes-end
+    padded-bytes-requires
+    sub-pcmpestri
+    cast-pcmpestri
+    pcmpestri-requires
+    cast-result
+    returns)

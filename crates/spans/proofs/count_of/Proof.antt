@@ -1,0 +1,12 @@
+-- `spans::count_of` meets its contract: it is `count`, case by case. Assumes nothing.
+use Rattle.spans.proofs.count_of.Statement.{statement}
+use Rattle.spans.proofs.count_of.Tie as tie
+
+returns : tie.Need-returns
+returns c = rw (c .if1 .taken)
+
+returns-2 : tie.Need-returns-2
+returns-2 c = rw (c .if1 .left)
+
+pub count-of-spec : {M : Type 1} → statement M
+count-of-spec = tie.close (tie.spec returns returns-2)

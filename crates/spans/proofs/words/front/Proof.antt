@@ -1,0 +1,71 @@
+-- `spans::words::front` meets its contract: the operand is the block's, and its length fits 32
+-- bits. Assumes nothing.
+use Prim.Native.Nat.{_-_}
+use mathlib.Core.Bool.{true}
+use mir.Syntax.{w32}
+use mir.ValLaws.{toZ-pos, toZ-ofZ}
+use native.Mathlib.Omega.{arith}
+use Rattle.spans.proofs.Indexes.{front-called}
+use Rattle.spans.proofs.words.front.Statement.{statement}
+use Rattle.spans.proofs.words.front.Tie as tie
+
+add-lesser : tie.Need-add-lesser
+add-lesser c = omega arith
+
+lesser-requires : tie.Need-lesser-requires
+lesser-requires c κs = tt
+
+mul-padded-words : tie.Need-mul-padded-words
+mul-padded-words c = omega arith
+
+sub-padded-words : tie.Need-sub-padded-words
+sub-padded-words c = omega (arith, c .lesser .ensures)
+
+part-padded-words-start : tie.Need-part-padded-words-start
+part-padded-words-start c = omega (arith, c .lesser .ensures)
+
+part-padded-words-end : tie.Need-part-padded-words-end
+part-padded-words-end c = omega (arith, c .lesser .ensures)
+
+padded-words-requires : tie.Need-padded-words-requires
+padded-words-requires c κs = tt
+
+sub-pcmpestri : tie.Need-sub-pcmpestri
+sub-pcmpestri c = omega (arith, c .before .before .lesser .ensures)
+
+cast-pcmpestri : tie.Need-cast-pcmpestri
+cast-pcmpestri c = record { sfits = omega (arith, c .before .before .lesser .ensures) }
+
+pcmpestri-requires : tie.Need-pcmpestri-requires
+pcmpestri-requires c κs = tt
+
+cast-result : tie.Need-cast-result
+cast-result c = omega arith
+
+returns : tie.Need-returns
+returns c =
+    let u = c .before .pcmpestri in
+    let o = c .before .before .padded-words in
+    let at-end = c .before .before .before .before in
+    let e = at-end .lesser in
+    let s = at-end .before .before in
+    let a = s .args in
+    front-called true (a .text .now) (a .list) (o .result) (a .i) (e .result) (a .control) (a .l) _ _ (u .result)
+    (e .ensures) (omega arith) (toZ-ofZ w32 (a .l) (s .fits .l)) (o .ensures) (toZ-pos w32 (e .result - a .i) (omega (arith, e .ensures))) (u .ensures)
+
+pub front-spec : {M : Type 1} → statement M
+front-spec =
+    tie.close
+    (tie.spec
+    add-lesser
+    lesser-requires
+    mul-padded-words
+    sub-padded-words
+    part-padded-words-start
+    part-padded-words-end
+    padded-words-requires
+    sub-pcmpestri
+    cast-pcmpestri
+    pcmpestri-requires
+    cast-result
+    returns)
