@@ -1,10 +1,10 @@
 // Bits kept in one number: bit j of a result belongs to element j of a block of sixteen bytes or eight words.
 //
 // Public calls: `alike_bytes`, `alike_words`, `same_bytes`, `same_words` compare a block for equality, `first` is the low n bits,
-// `least` and `greatest` find a set bit. None asks anything of its arguments.
+// `least` and `greatest` find a set bit; `min` is the lesser of two numbers. None asks anything of its arguments.
 ghost use mathlib.Core.Path.{_≡_};
 ghost use mathlib.Core.Bool.{cond};
-ghost use Prim.Native.Nat.{_+_, _-_, _*_, _<_};
+ghost use Prim.Native.Nat.{_+_, _-_, _*_, _<_, min};
 ghost use lib.Dec.{eqb, ltb};
 ghost use lib.ListN.{getD};
 ghost use lib.Count.{leadingZeros, trailingZeros};
@@ -132,4 +132,11 @@ pub fn greatest(number: u32, none: u32) -> u32
     } else {
         31 - u32::leading_zeros(number)
     }
+}
+
+// The lesser of two numbers.
+pub fn min(a: usize, b: usize) -> usize
+    ensures { λ r. ⌜ r ≡ min a b ⌝ }
+{
+    if b < a { b } else { a }
 }

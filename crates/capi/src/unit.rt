@@ -1,11 +1,11 @@
 // The string compare unit.
 use crate::weighed;
-use pcmpstr::Flags;
-use pcmpstr::IndexAnswer;
-use pcmpstr::MaskAnswer;
+use unit::Flags;
+use unit::IndexAnswer;
+use unit::MaskAnswer;
 ghost use mathlib.Core.Path.{_≡_};
 ghost use lib.IntN.{pos};
-ghost use Rattle.pcmpstr.specs.Calls.{PCMPESTRI, PCMPESTRM, PCMPISTRI, PCMPISTRM};
+ghost use Rattle.unit.specs.Calls.{PCMPESTRI, PCMPESTRM, PCMPISTRI, PCMPISTRM};
 ghost use Rattle.capi.specs.Crossing.{eflags, IndexGiven, MaskGiven};
 
 // The bits of the flags in the register EFLAGS.

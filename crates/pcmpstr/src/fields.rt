@@ -1,10 +1,10 @@
 // The fields of the control byte.
-use crate::Aggregation;
-use crate::Control;
-use crate::Polarity;
+use unit::Aggregation;
+use unit::Control;
+use unit::Polarity;
 ghost use mathlib.Core.Path.{_≡_};
 ghost use Prim.Native.Nat.{_<_};
-ghost use Rattle.pcmpstr.specs.Control.{aggregationOf, polarityOf, controlOf};
+ghost use Rattle.unit.specs.Control.{aggregationOf, polarityOf, controlOf};
 
 // Bits 3:2.
 fn aggregation_of(n: u8) -> Aggregation

@@ -1,15 +1,15 @@
 // The answer of the index calls.
 use crate::CONTROL_REFUSED;
-use crate::Compared;
-use crate::Control;
-use crate::IndexAnswer;
-use crate::operand;
+use unit::Compared;
+use unit::Control;
+use unit::IndexAnswer;
+use modes::operand;
 use crate::status;
 ghost use mathlib.Core.Path.{_≡_};
 ghost use Prim.Native.Nat.{_≤_};
-ghost use Rattle.pcmpstr.specs.Operand.{count};
-ghost use Rattle.pcmpstr.specs.Output.{refusedIndex};
-ghost use Rattle.pcmpstr.specs.Parts.{flagsRead, indexRead};
+ghost use Rattle.unit.specs.Operand.{count};
+ghost use Rattle.unit.specs.Output.{refusedIndex};
+ghost use Rattle.unit.specs.Parts.{flagsRead, indexRead};
 
 // The least or the greatest set bit, or b.
 fn index_of(high: bool, b: usize, bits: u32) -> u32

@@ -1,84 +1,29 @@
 // The string compare unit of SSE4.2: the instructions PCMPESTRI, PCMPESTRM, PCMPISTRI and PCMPISTRM as calls, proved equal to their
-// definition (specs/, after the Intel SSE4 Programming Reference, section 5.3 and the four instruction pages).
+// definition (crate `unit`).
 //
 // Public calls: `pcmpestri`, `pcmpestrm`, `pcmpistri`, `pcmpistrm`, with the arguments of Intel's intrinsics in their order; and for
 // searches `pcmpestri_0c`, `pcmpestri_0d`, `pcmpestri_18`, `pcmpestri_19`, the index of `pcmpestri` at that control, for lengths that
 // are not negative.
-// Data flows through the modules in this order: fields, operand, bytes or words, negation, status, then index or mask.
-mod bytes;
+// Data flows in this order: fields, then bytes or words of the crate `modes`, status, index or mask.
 mod fields;
 mod index;
 mod mask;
-mod negation;
-mod operand;
 mod status;
-mod words;
 
+use modes::bytes;
+use modes::operand;
+use modes::words;
+use unit::IndexAnswer;
+use unit::MaskAnswer;
 ghost use mathlib.Core.Path.{_≡_};
 ghost use lib.IntN.{pos};
-ghost use Rattle.pcmpstr.specs.Calls.{PCMPESTRI, PCMPESTRM, PCMPISTRI, PCMPISTRM};
+ghost use Rattle.unit.specs.Calls.{PCMPESTRI, PCMPESTRM, PCMPISTRI, PCMPISTRM};
 
 // The greatest control with a defined meaning: bit 7 of imm8 should be zero.
 const GREATEST_CONTROL: u8 = 127;
 
 // Refusal number 1: the control is above that. Number 0 stands for an accepted call.
 pub const CONTROL_REFUSED: u32 = 1;
-
-// How the comparisons of single elements are aggregated into IntRes1: control bits 3:2.
-pub enum Aggregation {
-    EqualAny,
-    Ranges,
-    EqualEach,
-    EqualOrdered,
-}
-
-// What becomes of IntRes1: control bits 5:4.
-pub enum Polarity {
-    Positive,
-    Negative,
-    MaskedPositive,
-    MaskedNegative,
-}
-
-// The control byte, taken apart. `high` is output selection, bit 6: the most significant index, or the byte/word mask.
-pub struct Control {
-    pub words: bool,
-    pub signed: bool,
-    pub aggregation: Aggregation,
-    pub polarity: Polarity,
-    pub high: bool,
-}
-
-// CF, ZF, SF, OF, AF and PF.
-pub struct Flags {
-    pub carry: bool,
-    pub zero: bool,
-    pub sign: bool,
-    pub overflow: bool,
-    pub auxiliary: bool,
-    pub parity: bool,
-}
-
-// The answer of the index calls. Refused, `refusal` is the number and every other field zero or false.
-pub struct IndexAnswer {
-    pub refusal: u32,
-    pub index: u32,
-    pub flags: Flags,
-}
-
-// The answer of the mask calls, refused in the same way.
-pub struct MaskAnswer {
-    pub refusal: u32,
-    pub mask: [u8; 16],
-    pub flags: Flags,
-}
-
-// IntRes2 as a number, bit j of it bit j of the number, and the effective lengths of the two operands.
-pub struct Compared {
-    pub bits: u32,
-    pub length1: usize,
-    pub length2: usize,
-}
 
 // Packed compare of strings of explicit length, the answer an index.
 pub fn pcmpestri(

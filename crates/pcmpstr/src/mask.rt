@@ -1,18 +1,18 @@
 // The answer of the mask calls.
 use crate::CONTROL_REFUSED;
-use crate::Compared;
-use crate::Control;
-use crate::MaskAnswer;
-use crate::operand;
+use unit::Compared;
+use unit::Control;
+use unit::MaskAnswer;
+use modes::operand;
 use crate::status;
 ghost use mathlib.Core.Path.{_≡_};
 ghost use mathlib.Core.Bool.{cond, false, true};
 ghost use mathlib.Core.List.{_∷_};
 ghost use Prim.Native.Nat.{_/_, _%_};
 ghost use lib.ListN.{replicate};
-ghost use Rattle.pcmpstr.specs.Operand.{count};
-ghost use Rattle.pcmpstr.specs.Output.{refusedMask};
-ghost use Rattle.pcmpstr.specs.Parts.{elementRead, flagsRead, maskRead};
+ghost use Rattle.unit.specs.Operand.{count};
+ghost use Rattle.unit.specs.Output.{refusedMask};
+ghost use Rattle.unit.specs.Parts.{elementRead, flagsRead, maskRead};
 
 // The bits in the first two bytes, low byte first.
 fn bit_mask(bits: u32) -> [u8; 16]

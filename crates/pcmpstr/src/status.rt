@@ -1,9 +1,9 @@
 // The flags, from IntRes2 and the effective lengths.
-use crate::Compared;
-use crate::Flags;
+use unit::Compared;
+use unit::Flags;
 ghost use mathlib.Core.Path.{_≡_};
-ghost use Rattle.pcmpstr.specs.Output.{noFlags};
-ghost use Rattle.pcmpstr.specs.Parts.{flagsRead};
+ghost use Rattle.unit.specs.Output.{noFlags};
+ghost use Rattle.unit.specs.Parts.{flagsRead};
 
 // The flags of an accepted call, for operands of b elements.
 pub fn flags_of(b: usize, t: Compared) -> Flags

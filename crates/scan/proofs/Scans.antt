@@ -17,13 +17,13 @@ use Rattle.bits.proofs.Below.{by-order, by-test, or-true, least-at, least-befor
 use Rattle.bits.proofs.Lists.{getD-tabulate}
 use Rattle.blocks.specs.Blocks.{operandOf}
 use Rattle.blocks.proofs.Compares.{element-is}
-use Rattle.pcmpstr.specs.declared.Aggregation.the-variants.{EqualOrdered}
-use Rattle.pcmpstr.specs.Control.{controlOf}
-use Rattle.pcmpstr.specs.Operand.{count, elements, explicitLength, wordAt, wordsOf}
-use Rattle.pcmpstr.specs.Compare.{override, boolRes, intRes1, intRes2}
-use Rattle.pcmpstr.specs.Output.{indexOf}
-use Rattle.pcmpstr.specs.Calls.{PCMPESTRI}
-use Rattle.pcmpstr.specs.Parts.{follows, orderedOf}
+use Rattle.unit.specs.declared.Aggregation.the-variants.{EqualOrdered}
+use Rattle.unit.specs.Control.{controlOf}
+use Rattle.unit.specs.Operand.{count, elements, explicitLength, wordAt, wordsOf}
+use Rattle.unit.specs.Compare.{override, boolRes, intRes1, intRes2}
+use Rattle.unit.specs.Output.{indexOf}
+use Rattle.unit.specs.Calls.{PCMPESTRI}
+use Rattle.unit.specs.Parts.{follows, orderedOf}
 use Rattle.scan.specs.Scan.{wholeBlocks, indexIn, scanned, firstFound, scanOf}
 use Rattle.scan.specs.Letters.{ahead, unaskedIn, standsAt, startsAt, Passed}
 

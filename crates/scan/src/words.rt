@@ -7,7 +7,7 @@ ghost use mathlib.Core.Path.{_≡_};
 ghost use mathlib.Core.Bool.{false, true};
 ghost use Prim.Native.Nat.{ℕ, _+_, _*_, _≤_, _<_};
 ghost use lib.ListN.{length};
-ghost use Rattle.pcmpstr.specs.Operand.{wordsOf};
+ghost use Rattle.unit.specs.Operand.{wordsOf};
 ghost use Rattle.scan.specs.Letters.{Passed, Reached, reach, standsAt, startsAt};
 ghost use Rattle.scan.specs.Scan.{agreeing, scanOf};
 

@@ -10,7 +10,7 @@ use lib.IntN.{ℤ, pos}
 use lib.Signed.{ltZ}
 use borrow.Author.Tests.{ltb-false, lt-ltb, le-ltb, eq-eqb, ne-eqb}
 use Rattle.bits.proofs.Below.{by-test}
-use Rattle.pcmpstr.specs.Operand.{count, valueOf}
+use Rattle.unit.specs.Operand.{count, valueOf}
 use Rattle.blocks.specs.Blocks.{longestText}
 use Rattle.text.specs.declared.OrderAnswer.{OrderAnswer}
 use Rattle.text.specs.Spans.{inSet, inRanges, spanLength, setRefusal, boundsRefusal, setSpan, rangeSpan}

@@ -12,14 +12,14 @@ use lib.Seq.{getD-take, getD-drop}
 use borrow.Author.Tests.{ltb-true, eqb-true, eqb-false, eq-eqb, ne-eqb}
 use Rattle.bits.specs.Bits.{leastBelow}
 use Rattle.bits.proofs.Below.{by-test}
-use Rattle.pcmpstr.specs.declared.Control.{Control}
-use Rattle.pcmpstr.specs.declared.Aggregation.the-variants.{EqualAny, Ranges}
-use Rattle.pcmpstr.specs.Control.{controlOf}
-use Rattle.pcmpstr.specs.Operand.{count}
-use Rattle.pcmpstr.specs.Compare.{operands, intRes1, intRes2}
-use Rattle.pcmpstr.specs.Output.{indexOf}
-use Rattle.pcmpstr.specs.Calls.{PCMPESTRI}
-use Rattle.pcmpstr.proofs.Unit.{any-bit, ranges-bit}
+use Rattle.unit.specs.declared.Control.{Control}
+use Rattle.unit.specs.declared.Aggregation.the-variants.{EqualAny, Ranges}
+use Rattle.unit.specs.Control.{controlOf}
+use Rattle.unit.specs.Operand.{count}
+use Rattle.unit.specs.Compare.{operands, intRes1, intRes2}
+use Rattle.unit.specs.Output.{indexOf}
+use Rattle.unit.specs.Calls.{PCMPESTRI}
+use Rattle.unit.proofs.Unit.{any-bit, ranges-bit}
 use Rattle.blocks.specs.Blocks.{operandOf, compareIndex, eachNegated}
 use Rattle.blocks.proofs.Compares.{part-size, parts-index, eachBit, each-is}
 use Rattle.text.specs.Spans.{spanLength}

@@ -2,7 +2,7 @@
 use Prim.Native.Nat.{ℕ}
 use mathlib.Core.Bool.{Bool, true, false}
 use mathlib.Core.List.{List}
-use Rattle.pcmpstr.specs.Operand.{valueOf}
+use Rattle.unit.specs.Operand.{valueOf}
 use Rattle.text.specs.Spans.{inSet, inRanges}
 
 -- x belongs to the list, read as a set or as ranges

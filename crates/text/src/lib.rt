@@ -11,7 +11,7 @@ pub mod words;
 
 ghost use mathlib.Core.Path.{_≡_};
 ghost use lib.IntN.{pos};
-ghost use Rattle.pcmpstr.specs.Operand.{count, valueOf};
+ghost use Rattle.unit.specs.Operand.{count, valueOf};
 ghost use Rattle.text.specs.Spans.{setRefusal, boundsRefusal};
 ghost use Rattle.text.specs.Orders.{orderRefusal, sign};
 ghost use Rattle.text.specs.Parts.{spanControl};

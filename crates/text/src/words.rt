@@ -6,7 +6,7 @@ ghost use Prim.Native.Nat.{_≤_};
 ghost use lib.ListN.{length};
 ghost use lib.IntN.{pos};
 ghost use Rattle.blocks.specs.Blocks.{longestText, operandOf};
-ghost use Rattle.pcmpstr.specs.Calls.{PCMPESTRI};
+ghost use Rattle.unit.specs.Calls.{PCMPESTRI};
 ghost use Rattle.text.specs.Spans.{boundsRefusal, rangeSpan, setRefusal, setSpan, spanLength};
 ghost use Rattle.text.specs.Orders.{difference, isSecond, lesserText, order, orderAnswer, orderRefusal};
 ghost use Rattle.text.specs.Parts.{belongs};

@@ -4,7 +4,7 @@ use mathlib.Core.Path.{_∙_}
 use mathlib.Core.Bool.{false}
 use lib.IntN.{pos}
 use native.Mathlib.Omega.{arith}
-use Rattle.pcmpstr.proofs.Unit.{cut-explicit, ordered-index}
+use Rattle.unit.proofs.Unit.{cut-explicit, ordered-index}
 use borrow.Author.Needs.{needs}
 use Rattle.pcmpstr.proofs.pcmpestri_0c.Statement.{statement}
 use Rattle.pcmpstr.proofs.pcmpestri_0c.Tie as tie

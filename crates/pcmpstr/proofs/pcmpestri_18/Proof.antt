@@ -5,8 +5,8 @@ use mathlib.Core.Bool.{false, not}
 use lib.IntN.{pos}
 use native.Mathlib.Omega.{arith}
 use Rattle.bits.proofs.Numbers.{least-read}
-use Rattle.pcmpstr.specs.Parts.{eachOf}
-use Rattle.pcmpstr.proofs.Unit.{cut-explicit, differ-index}
+use Rattle.unit.specs.Parts.{eachOf}
+use Rattle.unit.proofs.Unit.{cut-explicit, differ-index}
 use borrow.Author.Needs.{needs}
 use Rattle.pcmpstr.proofs.pcmpestri_18.Statement.{statement}
 use Rattle.pcmpstr.proofs.pcmpestri_18.Tie as tie

@@ -3,7 +3,7 @@
 use mathlib.Core.Bool.{true}
 use lib.IntN.{pos}
 use native.Mathlib.Omega.{arith}
-use Rattle.pcmpstr.proofs.Unit.{cut-explicit, differ-index}
+use Rattle.unit.proofs.Unit.{cut-explicit, differ-index}
 use borrow.Author.Needs.{needs}
 use Rattle.pcmpstr.proofs.pcmpestri_19.Statement.{statement}
 use Rattle.pcmpstr.proofs.pcmpestri_19.Tie as tie

@@ -2,7 +2,7 @@
 use native.Mathlib.Omega.{arith}
 use borrow.Author.Needs.{needs}
 use borrow.Author.Tests.{lt-ltb, le-ltb}
-use Rattle.pcmpstr.specs.Operand.{count}
+use Rattle.unit.specs.Operand.{count}
 use Rattle.blocks.specs.Blocks.{longestText}
 use Rattle.text.specs.Spans.{setRefusal}
 use Rattle.text.proofs.set_refusal.Statement.{statement}

@@ -7,7 +7,7 @@ use mir.ValLaws.{toZ-pos, toZ-ofZ}
 use borrow.Author.Needs.{needs}
 use native.Mathlib.Omega.{arith}
 use borrow.Author.Tests.{not-true, not-false}
-use Rattle.pcmpstr.proofs.Signs.{difference, value-clear, value-set}
+use Rattle.unit.proofs.Signs.{difference, value-clear, value-set}
 use Rattle.text.proofs.value.Statement.{statement}
 use Rattle.text.proofs.value.Tie as tie
 

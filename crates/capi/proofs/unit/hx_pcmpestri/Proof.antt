@@ -1,7 +1,7 @@
 -- What is handed on is the answer of the unit, and that is its definition. Assumes nothing.
 use borrow.Author.Needs.{needs}
 use mathlib.Core.Path.{subst}
-use Rattle.pcmpstr.specs.declared.IndexAnswer.{IndexAnswer}
+use Rattle.unit.specs.declared.IndexAnswer.{IndexAnswer}
 use Rattle.capi.specs.Crossing.{IndexGiven}
 use mir.Syntax.{w32}
 use mir.ValLaws.{toZ-ofZ}

@@ -1,7 +1,7 @@
 -- What is handed on is the answer of the unit, and that is its definition. Assumes nothing.
 use borrow.Author.Needs.{needs}
 use mathlib.Core.Path.{subst}
-use Rattle.pcmpstr.specs.declared.IndexAnswer.{IndexAnswer}
+use Rattle.unit.specs.declared.IndexAnswer.{IndexAnswer}
 use Rattle.capi.specs.Crossing.{IndexGiven}
 use Rattle.capi.proofs.unit.hx_pcmpistri.Statement.{statement}
 use Rattle.capi.proofs.unit.hx_pcmpistri.Tie as tie

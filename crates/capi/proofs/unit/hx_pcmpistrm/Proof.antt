@@ -1,7 +1,7 @@
 -- What is handed on is the answer of the unit, and that is its definition. Assumes nothing.
 use borrow.Author.Needs.{needs}
 use mathlib.Core.Path.{subst}
-use Rattle.pcmpstr.specs.declared.MaskAnswer.{MaskAnswer}
+use Rattle.unit.specs.declared.MaskAnswer.{MaskAnswer}
 use Rattle.capi.specs.Crossing.{MaskGiven}
 use Rattle.capi.proofs.unit.hx_pcmpistrm.Statement.{statement}
 use Rattle.capi.proofs.unit.hx_pcmpistrm.Tie as tie

@@ -1,6 +1,6 @@
 -- `pcmpstr::fields::aggregation_of` meets its contract, number by number. Assumes nothing.
 use mathlib.Core.Path.{ap}
-use Rattle.pcmpstr.specs.Control.{aggregationOf}
+use Rattle.unit.specs.Control.{aggregationOf}
 use borrow.Author.Needs.{needs}
 use native.Mathlib.Omega.{arith}
 use Rattle.pcmpstr.proofs.fields.aggregation_of.Statement.{statement}

@@ -1,5 +1,5 @@
 -- `pcmpstr::fields::decode` meets its contract: it reads the fields as the definition does. Assumes nothing.
-use Rattle.pcmpstr.specs.Control.{controlOf}
+use Rattle.unit.specs.Control.{controlOf}
 use borrow.Author.Needs.{needs}
 use Rattle.pcmpstr.proofs.fields.decode.Statement.{statement}
 use Rattle.pcmpstr.proofs.fields.decode.Tie as tie

@@ -1,6 +1,6 @@
 -- `pcmpstr::fields::polarity_of` meets its contract, number by number. Assumes nothing.
 use mathlib.Core.Path.{ap}
-use Rattle.pcmpstr.specs.Control.{polarityOf}
+use Rattle.unit.specs.Control.{polarityOf}
 use borrow.Author.Needs.{needs}
 use native.Mathlib.Omega.{arith}
 use Rattle.pcmpstr.proofs.fields.polarity_of.Statement.{statement}

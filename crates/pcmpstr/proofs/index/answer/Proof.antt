@@ -1,8 +1,8 @@
 -- `pcmpstr::index::answer` meets its contract, field by field. Assumes nothing.
 use Prim.Native.Nat.{ℕ}
 use mathlib.Core.Path.{ap, _∙_}
-use Rattle.pcmpstr.specs.Parts.{flagsRead, indexRead}
-use Rattle.pcmpstr.proofs.Unit.{count-most}
+use Rattle.unit.specs.Parts.{flagsRead, indexRead}
+use Rattle.unit.proofs.Unit.{count-most}
 use borrow.Author.Needs.{needs}
 use Rattle.pcmpstr.proofs.index.answer.Statement.{statement}
 use Rattle.pcmpstr.proofs.index.answer.Tie as tie

@@ -1,7 +1,7 @@
 -- `pcmpstr::mask::answer` meets its contract, field by field. Assumes nothing.
 use Prim.Native.Nat.{ℕ}
 use mathlib.Core.Path.{ap, _∙_}
-use Rattle.pcmpstr.specs.Parts.{flagsRead}
+use Rattle.unit.specs.Parts.{flagsRead}
 use borrow.Author.Needs.{needs}
 use Rattle.pcmpstr.proofs.mask.answer.Statement.{statement}
 use Rattle.pcmpstr.proofs.mask.answer.Tie as tie

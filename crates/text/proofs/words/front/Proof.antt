@@ -5,8 +5,8 @@ use mir.Syntax.{w32}
 use mir.ValLaws.{toZ-pos, toZ-ofZ}
 use native.Mathlib.Omega.{arith}
 use borrow.Author.Needs.{needs}
-use Rattle.pcmpstr.specs.declared.IndexAnswer.{IndexAnswer}
-use Rattle.pcmpstr.specs.Calls.{PCMPESTRI}
+use Rattle.unit.specs.declared.IndexAnswer.{IndexAnswer}
+use Rattle.unit.specs.Calls.{PCMPESTRI}
 use Rattle.text.proofs.words.front.Statement.{statement}
 use Rattle.text.proofs.words.front.Tie as tie
 
