@@ -2,8 +2,8 @@
 use unit::Aggregation;
 use unit::Compared;
 use unit::Control;
-use crate::negation;
-use crate::operand;
+use parts::negation;
+use parts::operand;
 ghost use mathlib.Core.Path.{_≡_};
 ghost use mathlib.Core.Bool.{cond, false, not, _&&_};
 ghost use Prim.Native.Nat.{_≤_};

@@ -2,9 +2,6 @@
 // its calls read off (crate `unit`, specs/Compare.antt).
 //
 // Public calls, each width in its module: `explicit` and `implicit`; of single modes `equal_ordered`
-// and `differ`, in words `differ_at`; `value`, what an element stands for. In `operand`: `count_of`,
-// `words_of`.
+// and `differ`, in words `differ_at`; and `value`, what an element stands for.
 pub mod bytes;
-mod negation;
-pub mod operand;
 pub mod words;

@@ -4,15 +4,15 @@
 // Public calls: `pcmpestri`, `pcmpestrm`, `pcmpistri`, `pcmpistrm`, with the arguments of Intel's intrinsics in their order; and for
 // searches `pcmpestri_0c`, `pcmpestri_0d`, `pcmpestri_18`, `pcmpestri_19`, the index of `pcmpestri` at that control, for lengths that
 // are not negative.
-// Data flows in this order: fields, then bytes or words of the crate `modes`, status, index or mask.
-mod fields;
-mod index;
-mod mask;
-mod status;
+// Data flows through `parts::fields`, then `modes::bytes` or `modes::words`, then `parts::index` or
+// `parts::mask`.
 
 use modes::bytes;
-use modes::operand;
 use modes::words;
+use parts::fields;
+use parts::index;
+use parts::mask;
+use parts::operand;
 use unit::IndexAnswer;
 use unit::MaskAnswer;
 ghost use mathlib.Core.Path.{_≡_};
@@ -21,9 +21,6 @@ ghost use Rattle.unit.specs.Calls.{PCMPESTRI, PCMPESTRM, PCMPISTRI, PCMPISTRM};
 
 // The greatest control with a defined meaning: bit 7 of imm8 should be zero.
 const GREATEST_CONTROL: u8 = 127;
-
-// Refusal number 1: the control is above that. Number 0 stands for an accepted call.
-pub const CONTROL_REFUSED: u32 = 1;
 
 // Packed compare of strings of explicit length, the answer an index.
 pub fn pcmpestri(
@@ -97,8 +94,8 @@ pub fn pcmpistrm(operand1: [u8; 16], operand2: [u8; 16], control: u8) -> MaskAns
 pub fn pcmpestri_0c(operand1: [u8; 16], length1: usize, operand2: [u8; 16], length2: usize) -> u32
     ensures { λ r. ⌜ r ≡ PCMPESTRI operand1 (pos length1) operand2 (pos length2) 12 .index ⌝ }
 {
-    let l1 = operand::cut(16, length1);
-    let l2 = operand::cut(16, length2);
+    let l1 = bits::min(16, length1);
+    let l2 = bits::min(16, length2);
     let found = bytes::equal_ordered(&operand1, l1, &operand2, l2, bits::first(l2));
     bits::least(found, 16)
 }
@@ -107,8 +104,8 @@ pub fn pcmpestri_0c(operand1: [u8; 16], length1: usize, operand2: [u8; 16], leng
 pub fn pcmpestri_18(operand1: [u8; 16], length1: usize, operand2: [u8; 16], length2: usize) -> u32
     ensures { λ r. ⌜ r ≡ PCMPESTRI operand1 (pos length1) operand2 (pos length2) 24 .index ⌝ }
 {
-    let l1 = operand::cut(16, length1);
-    let l2 = operand::cut(16, length2);
+    let l1 = bits::min(16, length1);
+    let l2 = bits::min(16, length2);
     bits::least(bytes::differ(&operand1, l1, &operand2, l2), 16)
 }
 
@@ -118,8 +115,8 @@ pub fn pcmpestri_0d(operand1: [u8; 16], length1: usize, operand2: [u8; 16], leng
 {
     let x1 = operand::words_of(operand1);
     let x2 = operand::words_of(operand2);
-    let l1 = operand::cut(8, length1);
-    let l2 = operand::cut(8, length2);
+    let l1 = bits::min(8, length1);
+    let l2 = bits::min(8, length2);
     bits::least(words::equal_ordered(&x1, l1, &x2, l2), 8)
 }
 
@@ -129,7 +126,7 @@ pub fn pcmpestri_19(operand1: [u8; 16], length1: usize, operand2: [u8; 16], leng
 {
     let x1 = operand::words_of(operand1);
     let x2 = operand::words_of(operand2);
-    let l1 = operand::cut(8, length1);
-    let l2 = operand::cut(8, length2);
+    let l1 = bits::min(8, length1);
+    let l2 = bits::min(8, length2);
     words::differ_at(&x1, l1, &x2, l2)
 }

@@ -7,7 +7,7 @@ use mathlib.Core.Bool.{Bool, true, false, cond}
 use mathlib.Core.List.{List, _∷_}
 use lib.Dec.{eqb, ltb}
 use lib.ListN.{getD, replicate}
-use borrow.Author.Tests.{lt-ltb, ltb-true}
+use borrow.Author.Tests.{ltb-true}
 use Rattle.bits.specs.Bits.{anyBelow, leastBelow, greatestBelow, numberOf, tabulate}
 use Rattle.unit.specs.declared.Control.{Control}
 use Rattle.unit.specs.declared.Aggregation.{Aggregation}
@@ -15,7 +15,7 @@ use Rattle.unit.specs.declared.Aggregation.the-variants.{EqualAny, Range
 use Rattle.unit.specs.Control.{controlOf}
 use Rattle.unit.specs.Operand.{count, valueOf}
 use Rattle.unit.specs.Compare.{Operands, operands, override, compared, aggregated, withPolarity, boolRes, intRes1, intRes2}
-use Rattle.unit.specs.Output.{indexOf, bitMask, elementMask, maskOf, flagsOf, indexAnswer, maskAnswer}
+use Rattle.unit.specs.Output.{indexOf, bitMask, elementMask, maskOf, flagsOf, indexAnswer, maskAnswer, refusedIndex, refusedMask}
 use Rattle.unit.specs.Calls.{PCMPESTRI, PCMPESTRM, PCMPISTRI, PCMPISTRM}
 use Rattle.unit.specs.Agree.{Call, Explicit, Implicit, indexCall, maskCall, controlByte, operandsOf, Agree}
 
@@ -59,16 +59,16 @@ module _ (k : Control) (l₁ l₂ : ℕ) (x₁ x₂ y₁ y₂ : List ℕ) (p : (
       (λ (b : ℕ → Bool). record { refusal = 0; mask = cond (k .high) (tabulate 16 (λ i. cond (b (cond (k .words) (i / 2) i)) 255 0)) ((numberOf (count (k .words)) b % 256) ∷ (numberOf (count (k .words)) b / 256 % 256) ∷ replicate 14 0); flags = record { carry = anyBelow (count (k .words)) b; zero = ltb l₂ (count (k .words)); sign = ltb l₁ (count (k .words)); overflow = b 0; auxiliary = false; parity = false } })
       bits-same
 
--- an accepted call answers for its operands
-index-accepted : (p : Call) → controlByte p < 128 → indexCall p ≡ indexAnswer (operandsOf p)
+-- a call answers for its control and its operands
+index-of : (p : Call) → indexCall p ≡ cond (ltb (controlByte p) 128) (indexAnswer (operandsOf p)) refusedIndex
 unfolding PCMPESTRI PCMPISTRI
-index-accepted (Explicit x₁ l₁ x₂ l₂ c) h = rw (lt-ltb c 128 h)
-index-accepted (Implicit x₁ x₂ c) h = rw (lt-ltb c 128 h)
+index-of (Explicit x₁ l₁ x₂ l₂ c) = refl
+index-of (Implicit x₁ x₂ c) = refl
 
-mask-accepted : (p : Call) → controlByte p < 128 → maskCall p ≡ maskAnswer (operandsOf p)
+mask-of : (p : Call) → maskCall p ≡ cond (ltb (controlByte p) 128) (maskAnswer (operandsOf p)) refusedMask
 unfolding PCMPESTRM PCMPISTRM
-mask-accepted (Explicit x₁ l₁ x₂ l₂ c) h = rw (lt-ltb c 128 h)
-mask-accepted (Implicit x₁ x₂ c) h = rw (lt-ltb c 128 h)
+mask-of (Explicit x₁ l₁ x₂ l₂ c) = refl
+mask-of (Implicit x₁ x₂ c) = refl
 
 control-of : (p : Call) → operandsOf p .control ≡ controlOf (controlByte p)
 control-of (Explicit x₁ l₁ x₂ l₂ c) = refl
@@ -77,9 +77,6 @@ control-of (Implicit x₁ x₂ c) = refl
 module _ (p q : Call) (h : Agree p q) where
   same-control : operandsOf p .control ≡ operandsOf q .control
   same-control = control-of p ∙ ap controlOf (h .control) ∙ sym (control-of q)
-
-  accepted-too : controlByte q < 128
-  accepted-too = rw (h .control) at (h .accepted)
 
   -- p's elements under q's control and lengths
   abbrev meeting : Operands
@@ -96,17 +93,25 @@ module _ (p q : Call) (h : Agree p q) where
   agree₂ : (i : ℕ) → i < operandsOf q .length₂ → getD (operandsOf p .elements₂) i 0 ≡ getD (operandsOf q .elements₂) i 0
   agree₂ i u = h .valid₂ i (rw (h .length₂) u)
 
-  -- The theorem, for index calls and for mask calls.
+  same-index : indexAnswer (operandsOf p) ≡ indexAnswer (operandsOf q)
+  same-index =
+      ap indexAnswer to-meeting
+      ∙ index-same (operandsOf q .control) (operandsOf q .length₁) (operandsOf q .length₂) (operandsOf p .elements₁) (operandsOf p .elements₂) (operandsOf q .elements₁) (operandsOf q .elements₂) agree₁ agree₂
+
+  same-mask : maskAnswer (operandsOf p) ≡ maskAnswer (operandsOf q)
+  same-mask =
+      ap maskAnswer to-meeting
+      ∙ mask-same (operandsOf q .control) (operandsOf q .length₁) (operandsOf q .length₂) (operandsOf p .elements₁) (operandsOf p .elements₂) (operandsOf q .elements₁) (operandsOf q .elements₂) agree₁ agree₂
+
+  -- The theorem, for index calls and for mask calls. Above 127 both are refused, so they answer alike too.
   pub index-by-valid-elements : indexCall p ≡ indexCall q
   index-by-valid-elements =
-      index-accepted p (h .accepted)
-      ∙ ap indexAnswer to-meeting
-      ∙ index-same (operandsOf q .control) (operandsOf q .length₁) (operandsOf q .length₂) (operandsOf p .elements₁) (operandsOf p .elements₂) (operandsOf q .elements₁) (operandsOf q .elements₂) agree₁ agree₂
-      ∙ sym (index-accepted q accepted-too)
+      index-of p
+      ∙ (λ t. cond (ltb (h .control t) 128) (same-index t) refusedIndex)
+      ∙ sym (index-of q)
 
   pub mask-by-valid-elements : maskCall p ≡ maskCall q
   mask-by-valid-elements =
-      mask-accepted p (h .accepted)
-      ∙ ap maskAnswer to-meeting
-      ∙ mask-same (operandsOf q .control) (operandsOf q .length₁) (operandsOf q .length₂) (operandsOf p .elements₁) (operandsOf p .elements₂) (operandsOf q .elements₁) (operandsOf q .elements₂) agree₁ agree₂
-      ∙ sym (mask-accepted q accepted-too)
+      mask-of p
+      ∙ (λ t. cond (ltb (h .control t) 128) (same-mask t) refusedMask)
+      ∙ sym (mask-of q)

@@ -33,10 +33,9 @@ abbrev pub operandsOf : Call → Operands
 operandsOf (Explicit x₁ l₁ x₂ l₂ c) = explicit x₁ l₁ x₂ l₂ (controlOf c)
 operandsOf (Implicit x₁ x₂ c) = implicit x₁ x₂ (controlOf c)
 
--- The control is one number within 0 to 127, the effective lengths agree, and the valid elements agree.
+-- The control is one number, the effective lengths agree, and the valid elements agree.
 pub record Agree (p q : Call) : Type 0 where
   pub control : controlByte p ≡ controlByte q
-  pub accepted : controlByte p < 128
   pub length₁ : operandsOf p .length₁ ≡ operandsOf q .length₁
   pub length₂ : operandsOf p .length₂ ≡ operandsOf q .length₂
   pub valid₁ : (i : ℕ) → i < operandsOf p .length₁ → getD (operandsOf p .elements₁) i 0 ≡ getD (operandsOf q .elements₁) i 0

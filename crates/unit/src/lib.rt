@@ -1,6 +1,9 @@
 // The string compare unit of SSE4.2 as a definition: its types here, what they mean in specs/ (after the
 // Intel SSE4 Programming Reference, section 5.3 and the four instruction pages), its laws in proofs/.
-// There is no function here: `modes` computes IntRes2 and `pcmpstr` has the calls.
+// There is no function here: `parts` and `modes` compute it and `pcmpstr` has the calls.
+
+// Refusal number 1: the control is above 127. Number 0 stands for an accepted call.
+pub const CONTROL_REFUSED: u32 = 1;
 
 // How the comparisons of single elements are aggregated into IntRes1: control bits 3:2.
 pub enum Aggregation {
