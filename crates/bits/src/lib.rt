@@ -1,7 +1,9 @@
-// Bits kept in one number: bit j of a result belongs to element j of a block of sixteen bytes or eight words.
+// Bits kept in one number: bit j of a result belongs to element j of a block of sixteen bytes or
+// eight words.
 //
-// Public calls: `alike_bytes`, `alike_words`, `same_bytes`, `same_words` compare a block for equality, `first` is the low n bits,
-// `least` and `greatest` find a set bit; `min` is the lesser of two numbers. None asks anything of its arguments.
+// Public calls: `alike_bytes`, `alike_words`, `same_bytes`, `same_words` compare a block for
+// equality, `first` is the low n bits, `least` and `greatest` find a set bit; `min` is the lesser
+// of two numbers. None asks anything of its arguments.
 ghost use mathlib.Core.Path.{_≡_};
 ghost use mathlib.Core.Bool.{cond};
 ghost use Prim.Native.Nat.{_+_, _-_, _*_, _<_, min};
@@ -17,8 +19,8 @@ fn bit(t: bool) -> u16
     if t { 1 } else { 0 }
 }
 
-// Four bits, lowest first. The sum is a tree on purpose: a compare of sixteen elements in this shape becomes one compare of two
-// vectors and one move of its mask.
+// Four bits, lowest first. The sum is a tree on purpose: a compare of sixteen elements in this
+// shape becomes one compare of two vectors and one move of its mask.
 fn four(a: bool, b: bool, c: bool, d: bool) -> u16
     ensures { λ r. ⌜ (r ≡ cond a 1 0 + 2 * cond b 1 0 + 4 * (cond c 1 0 + 2 * cond d 1 0)) × (r < 16) ⌝ }
 {

@@ -1,9 +1,10 @@
-// Operands of sixteen bytes: IntRes1 as a number, a mode at a time, then IntRes2 with the effective lengths.
+// Operands of sixteen bytes: IntRes1 as a number, a mode at a time, then IntRes2 with the effective
+// lengths.
+use parts::negation;
+use parts::operand;
 use unit::Aggregation;
 use unit::Compared;
 use unit::Control;
-use parts::negation;
-use parts::operand;
 ghost use mathlib.Core.Path.{_≡_};
 ghost use mathlib.Core.Bool.{cond, false, not, _&&_};
 ghost use Prim.Native.Nat.{_≤_};
@@ -30,7 +31,8 @@ fn implicit_length(x: &[u8; 16]) -> usize
     i
 }
 
-// Bit j: x2[j] is valid and equals a valid element of x1. It stops once every valid element of x2 has been found.
+// Bit j: x2[j] is valid and equals a valid element of x1. It stops once every valid element of x2
+// has been found.
 fn equal_any(x1: &[u8; 16], l1: usize, x2: &[u8; 16], l2: usize) -> u32
     requires { ⌜ (l1 ≤ 16) × (l2 ≤ 16) ⌝ }
     ensures { λ r. ⌜ r ≡ numberOf 16 (anyOf (now (x1 .entry)) l1 (now (x2 .entry)) l2) ⌝ }
@@ -82,7 +84,8 @@ fn within(signed: bool, x: [u8; 16], low: u8, high: u8, row: [u8; 16]) -> [u8; 1
     a
 }
 
-// Bit j: x2[j] is valid and lies in one of the first n ranges of x1, each a lower and an upper bound.
+// Bit j: x2[j] is valid and lies in one of the first n ranges of x1, each a lower and an upper
+// bound.
 fn ranges(signed: bool, x1: [u8; 16], n: usize, x2: [u8; 16], l2: usize) -> u32
     requires { ⌜ (n ≤ 8) × (l2 ≤ 16) ⌝ }
     ensures { λ r. ⌜ r ≡ numberOf 16 (rangesOf (valueOf false signed) x1 n x2 l2) ⌝ }
@@ -107,7 +110,8 @@ fn equal_each(x1: &[u8; 16], l1: usize, x2: &[u8; 16], l2: usize) -> u32
     (bits::alike_bytes(x2, x1) & v1 & v2) | ((v1 | v2) ^ 0xffff)
 }
 
-// Bit j: equal each, negated. Parts of one length, as a search compares them, differ at a valid element or nowhere.
+// Bit j: equal each, negated. Parts of one length, as a search compares them, differ at a valid
+// element or nowhere.
 pub fn differ(x1: &[u8; 16], l1: usize, x2: &[u8; 16], l2: usize) -> u32
     requires { ⌜ (l1 ≤ 16) × (l2 ≤ 16) ⌝ }
     ensures { λ r. ⌜ r ≡ numberOf 16 (λ j. not (eachOf (now (x1 .entry)) l1 (now (x2 .entry)) l2 j)) ⌝ }
@@ -121,12 +125,14 @@ pub fn differ(x1: &[u8; 16], l1: usize, x2: &[u8; 16], l2: usize) -> u32
     ((same & v1 & v2) | ((v1 | v2) ^ 0xffff)) ^ 0xffff
 }
 
-// Bit j: the valid elements of x1 stand in x2 from j on, as far as its sixteen go. `valid` has the bits of the valid elements of x2: the
-// caller makes it, so that it is a constant where a block is whole.
-// After i elements, bit j + i of `left` tells of j. Past the block nothing is compared, so every bit from 16 on counts as equal. It stops
-// once nothing is left, or nothing below bit 16, since what stands past it can no longer fall. It never stops after the first element: bit 30 is a
-// mark that the first turn shifts to bit 31, where both tests see it, and the second shifts out. Whether a block holds the first element is hard to
-// foretell, and a branch foretold wrongly costs more than a compare.
+// Bit j: the valid elements of x1 stand in x2 from j on, as far as its sixteen go. `valid` has the
+// bits of the valid elements of x2: the caller makes it, so that it is a constant where a block is
+// whole. After i elements, bit j + i of `left` tells of j. Past the block nothing is compared, so
+// every bit from 16 on counts as equal. It stops once nothing is left, or nothing below bit 16,
+// since what stands past it can no longer fall. It never stops after the first element: bit 30 is a
+// mark that the first turn shifts to bit 31, where both tests see it, and the second shifts out.
+// Whether a block holds the first element is hard to foretell, and a branch foretold wrongly costs
+// more than a compare.
 pub fn equal_ordered(x1: &[u8; 16], l1: usize, x2: &[u8; 16], l2: usize, valid: u32) -> u32
     requires { ⌜ (l1 ≤ 16) × (l2 ≤ 16) × (valid ≡ numberOf 16 (λ j. ltb j l2)) ⌝ }
     ensures { λ r. ⌜ r ≡ numberOf 16 (orderedOf 16 (now (x1 .entry)) l1 (now (x2 .entry)) l2) ⌝ }

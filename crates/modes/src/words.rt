@@ -1,9 +1,10 @@
-// Operands of eight words: IntRes1 as a number, a mode at a time, then IntRes2 with the effective lengths.
+// Operands of eight words: IntRes1 as a number, a mode at a time, then IntRes2 with the effective
+// lengths.
+use parts::negation;
+use parts::operand;
 use unit::Aggregation;
 use unit::Compared;
 use unit::Control;
-use parts::negation;
-use parts::operand;
 ghost use mathlib.Core.Path.{_≡_};
 ghost use mathlib.Core.Bool.{cond, true, not, _&&_};
 ghost use Prim.Native.Nat.{_≤_};
@@ -30,7 +31,8 @@ fn implicit_length(x: &[u16; 8]) -> usize
     i
 }
 
-// Bit j: x2[j] is valid and equals a valid element of x1. It stops once every valid element of x2 has been found.
+// Bit j: x2[j] is valid and equals a valid element of x1. It stops once every valid element of x2
+// has been found.
 fn equal_any(x1: &[u16; 8], l1: usize, x2: &[u16; 8], l2: usize) -> u32
     requires { ⌜ (l1 ≤ 8) × (l2 ≤ 8) ⌝ }
     ensures { λ r. ⌜ r ≡ numberOf 8 (anyOf (now (x1 .entry)) l1 (now (x2 .entry)) l2) ⌝ }
@@ -86,7 +88,8 @@ fn within(signed: bool, x: [u16; 8], low: u16, high: u16, row: [u16; 8]) -> [u16
     a
 }
 
-// Bit j: x2[j] is valid and lies in one of the first n ranges of x1, each a lower and an upper bound.
+// Bit j: x2[j] is valid and lies in one of the first n ranges of x1, each a lower and an upper
+// bound.
 fn ranges(signed: bool, x1: [u16; 8], n: usize, x2: [u16; 8], l2: usize) -> u32
     requires { ⌜ (n ≤ 4) × (l2 ≤ 8) ⌝ }
     ensures { λ r. ⌜ r ≡ numberOf 8 (rangesOf (valueOf true signed) x1 n x2 l2) ⌝ }
@@ -111,7 +114,8 @@ fn equal_each(x1: &[u16; 8], l1: usize, x2: &[u16; 8], l2: usize) -> u32
     (bits::alike_words(x2, x1) & v1 & v2) | ((v1 | v2) ^ 0xff)
 }
 
-// Where two parts of one length first differ, or 8. Word by word: the compiler makes no mask of a compare of eight words.
+// Where two parts of one length first differ, or 8. Word by word: the compiler makes no mask of a
+// compare of eight words.
 fn same_length_differ_at(x1: &[u16; 8], x2: &[u16; 8], l: usize) -> u32
     requires { ⌜ l ≤ 8 ⌝ }
     ensures { λ r. ⌜ r ≡ leastBelow 8 (λ j. not (eachOf (now (x1 .entry)) l (now (x2 .entry)) l j)) ⌝ }
@@ -126,7 +130,8 @@ fn same_length_differ_at(x1: &[u16; 8], x2: &[u16; 8], l: usize) -> u32
     8
 }
 
-// The least bit of equal each, negated, or 8. Parts of one length, as a search compares them, differ at a valid element or nowhere.
+// The least bit of equal each, negated, or 8. Parts of one length, as a search compares them,
+// differ at a valid element or nowhere.
 pub fn differ_at(x1: &[u16; 8], l1: usize, x2: &[u16; 8], l2: usize) -> u32
     requires { ⌜ (l1 ≤ 8) × (l2 ≤ 8) ⌝ }
     ensures { λ r. ⌜ r ≡ leastBelow 8 (λ j. not (eachOf (now (x1 .entry)) l1 (now (x2 .entry)) l2 j)) ⌝ }
@@ -137,9 +142,10 @@ pub fn differ_at(x1: &[u16; 8], l1: usize, x2: &[u16; 8], l2: usize) -> u32
     bits::least(equal_each(x1, l1, x2, l2) ^ 0xff, 8)
 }
 
-// Bit j: the valid elements of x1 stand in x2 from j on, as far as its eight go. It stops once they stand nowhere, which it
-// asks from the second element on: whether a block holds the first one is hard to foretell, and a branch foretold wrongly costs more than
-// a compare. `(i + 15) / 16` is 0 at the first element and 1 after it.
+// Bit j: the valid elements of x1 stand in x2 from j on, as far as its eight go. It stops once they
+// stand nowhere, which it asks from the second element on: whether a block holds the first one is
+// hard to foretell, and a branch foretold wrongly costs more than a compare. `(i + 15) / 16` is 0
+// at the first element and 1 after it.
 pub fn equal_ordered(x1: &[u16; 8], l1: usize, x2: &[u16; 8], l2: usize) -> u32
     requires { ⌜ (l1 ≤ 8) × (l2 ≤ 8) ⌝ }
     ensures { λ r. ⌜ r ≡ numberOf 8 (orderedOf 8 (now (x1 .entry)) l1 (now (x2 .entry)) l2) ⌝ }

@@ -1,10 +1,10 @@
 // The answer of the index calls.
+use crate::operand;
+use crate::status;
 use unit::CONTROL_REFUSED;
 use unit::Compared;
 use unit::Control;
 use unit::IndexAnswer;
-use crate::operand;
-use crate::status;
 ghost use mathlib.Core.Path.{_≡_};
 ghost use Prim.Native.Nat.{_≤_};
 ghost use Rattle.unit.specs.Operand.{count};

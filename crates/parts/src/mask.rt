@@ -1,10 +1,10 @@
 // The answer of the mask calls.
+use crate::operand;
+use crate::status;
 use unit::CONTROL_REFUSED;
 use unit::Compared;
 use unit::Control;
 use unit::MaskAnswer;
-use crate::operand;
-use crate::status;
 ghost use mathlib.Core.Path.{_≡_};
 ghost use mathlib.Core.Bool.{cond, false, true};
 ghost use mathlib.Core.List.{_∷_};

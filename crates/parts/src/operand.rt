@@ -11,7 +11,8 @@ pub fn count_of(words: bool) -> usize
     if words { 8 } else { 16 }
 }
 
-// The absolute value of a length, cut to 16. The least length of all is cut before it would be negated.
+// The absolute value of a length, cut to 16. The least length of all is cut before it would be
+// negated.
 fn magnitude(length: i32) -> usize
     ensures { λ r. ⌜ r ≡ min 16 (natAbs length) ⌝ }
 {

@@ -1,10 +1,10 @@
-// The string compare unit of SSE4.2: the instructions PCMPESTRI, PCMPESTRM, PCMPISTRI and PCMPISTRM as calls, proved equal to their
-// definition (crate `unit`).
+// The string compare unit of SSE4.2: the instructions PCMPESTRI, PCMPESTRM, PCMPISTRI and PCMPISTRM
+// as calls, proved equal to their definition (crate `unit`).
 //
-// Public calls: `pcmpestri`, `pcmpestrm`, `pcmpistri`, `pcmpistrm`, with the arguments of Intel's intrinsics in their order; and for
-// searches `pcmpestri_0c`, `pcmpestri_0d`, `pcmpestri_18`, `pcmpestri_19`, the index of `pcmpestri` at that control, for lengths that
-// are not negative.
-// Data flows through `parts::fields`, then `modes::bytes` or `modes::words`, then `parts::index` or
+// Public calls: `pcmpestri`, `pcmpestrm`, `pcmpistri`, `pcmpistrm`, with the arguments of Intel's
+// intrinsics in their order; and for searches `pcmpestri_0c`, `pcmpestri_0d`, `pcmpestri_18`,
+// `pcmpestri_19`, the index of `pcmpestri` at that control, for lengths that are not negative. Data
+// flows through `parts::fields`, then `modes::bytes` or `modes::words`, then `parts::index` or
 // `parts::mask`.
 
 use modes::bytes;
@@ -90,7 +90,8 @@ pub fn pcmpistrm(operand1: [u8; 16], operand2: [u8; 16], control: u8) -> MaskAns
     mask::answer(k, bytes::implicit(operand1, operand2, k))
 }
 
-// The index of `pcmpestri` at control 0Ch: where operand 1 first stands in operand 2, in unsigned bytes.
+// The index of `pcmpestri` at control 0Ch: where operand 1 first stands in operand 2, in unsigned
+// bytes.
 pub fn pcmpestri_0c(operand1: [u8; 16], length1: usize, operand2: [u8; 16], length2: usize) -> u32
     ensures { λ r. ⌜ r ≡ PCMPESTRI operand1 (pos length1) operand2 (pos length2) 12 .index ⌝ }
 {
@@ -109,7 +110,8 @@ pub fn pcmpestri_18(operand1: [u8; 16], length1: usize, operand2: [u8; 16], leng
     bits::least(bytes::differ(&operand1, l1, &operand2, l2), 16)
 }
 
-// The index of `pcmpestri` at control 0Dh: where operand 1 first stands in operand 2, in unsigned words.
+// The index of `pcmpestri` at control 0Dh: where operand 1 first stands in operand 2, in unsigned
+// words.
 pub fn pcmpestri_0d(operand1: [u8; 16], length1: usize, operand2: [u8; 16], length2: usize) -> u32
     ensures { λ r. ⌜ r ≡ PCMPESTRI operand1 (pos length1) operand2 (pos length2) 13 .index ⌝ }
 {

@@ -1,4 +1,5 @@
--- What the loops of src/bytes.rt and src/words.rt compute, as numbers of b bits. Stated over b, which is 16 or 8. Assumes nothing.
+-- What the loops of src/bytes.rt and src/words.rt compute, as numbers of b bits. Stated over b,
+-- which is 16 or 8. Assumes nothing.
 use Prim.Native.Nat.{ℕ, zero, suc, _+_, _*_, _-_, _/_, _%_, _^_, _≤_, _<_, min}
 use mathlib.Core.Path.{_≡_, refl, sym, ap, subst, _∙_}
 use mathlib.Core.Bool.{Bool, true, false, cond, not, _&&_, _||_}
@@ -158,8 +159,8 @@ all-less p m n h e =
     let q : m + (n - m) ≡ n = omega arith in
     rw q at (all-fewer p m (n - m) e)
 
--- Positions in a number of 32 bits that is shifted up by one a turn: after i turns they are its b bits from i on.
--- An and with b bits sees b bits.
+-- Positions in a number of 32 bits that is shifted up by one a turn: after i turns they are its b
+-- bits from i on. An and with b bits sees b bits.
 and-low : (b a m : ℕ) → a < 2 ^ b → bitAnd a (m % 2 ^ b) ≡ bitAnd a m
 and-low b a m h =
     ap (λ (x : ℕ). bitAnd x (m % 2 ^ b)) (sym (mod-eq-of-lt h))
@@ -187,7 +188,8 @@ turned b i l m h =
     ∙ and-mod (l / 2 ^ i) (m / 2 ^ i) b
     ∙ and-low b (l / 2 ^ i % 2 ^ b) (m / 2 ^ i) (mod-lt (l / 2 ^ i) (pow-pos b))
 
--- a number with no bit below b has none below b - i once it is shifted down by i, and no bit j below b
+-- a number with no bit below b has none below b - i once it is shifted down by i, and no bit j
+-- below b
 low-field : (b i l : ℕ) → i ≤ b → l % 2 ^ b ≡ 0 → l / 2 ^ i % 2 ^ (b - i) ≡ 0
 low-field b i l h e =
     let n : b - i + i ≡ b = omega arith in

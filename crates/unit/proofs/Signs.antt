@@ -1,4 +1,5 @@
--- Signed numbers: what the tests of `magnitude` tell of a length, and the values of elements. Assumes nothing.
+-- Signed numbers: what the tests of `magnitude` tell of a length, and the values of elements.
+-- Assumes nothing.
 use Prim.Native.Nat.{ℕ, suc, _+_, _-_, _^_, _≤_, _<_, min}
 use mathlib.Core.Path.{_≡_, refl, ap}
 use mathlib.Core.Bool.{Bool, true, false, cond}

@@ -1,5 +1,5 @@
--- The number of each mode is the number of IntRes1, the polarity makes IntRes2 of it, and index, mask and flags are read off that.
--- Stated over the width, `w`: `count w` is b. Assumes nothing.
+-- The number of each mode is the number of IntRes1, the polarity makes IntRes2 of it, and index,
+-- mask and flags are read off that. Stated over the width, `w`: `count w` is b. Assumes nothing.
 use Prim.Native.Nat.{ℕ, zero, suc, _+_, _*_, _/_, _%_, _≤_, _<_, min}
 use mathlib.Core.Path.{_≡_, refl, sym, ap, _∙_}
 use mathlib.Core.Bool.{Bool, true, false, cond, not, _&&_}

@@ -1,6 +1,7 @@
--- The answer depends on the control, the effective lengths and the valid elements only: any two index calls, and any two mask calls,
--- explicit or implicit, that agree on these (specs/Agree.antt) answer alike in every bit. Table 5-7 is the reason: a comparison
--- counts only where both of its elements are valid. Assumes nothing.
+-- The answer depends on the control, the effective lengths and the valid elements only: any two
+-- index calls, and any two mask calls, explicit or implicit, that agree on these (specs/Agree.antt)
+-- answer alike in every bit. Table 5-7 is the reason: a comparison counts only where both of its
+-- elements are valid. Assumes nothing.
 use Prim.Native.Nat.{ℕ, _<_, _/_, _%_}
 use mathlib.Core.Path.{_≡_, refl, sym, ap, _∙_}
 use mathlib.Core.Bool.{Bool, true, false, cond}
@@ -103,7 +104,8 @@ module _ (p q : Call) (h : Agree p q) where
       ap maskAnswer to-meeting
       ∙ mask-same (operandsOf q .control) (operandsOf q .length₁) (operandsOf q .length₂) (operandsOf p .elements₁) (operandsOf p .elements₂) (operandsOf q .elements₁) (operandsOf q .elements₂) agree₁ agree₂
 
-  -- The theorem, for index calls and for mask calls. Above 127 both are refused, so they answer alike too.
+  -- The theorem, for index calls and for mask calls. Above 127 both are refused, so they answer
+  -- alike too.
   pub index-by-valid-elements : indexCall p ≡ indexCall q
   index-by-valid-elements =
       index-of p

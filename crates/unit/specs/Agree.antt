@@ -1,4 +1,5 @@
--- Calls that agree on what the unit may look at. proofs/ValidElements.antt shows that their answers are equal in every bit.
+-- Calls that agree on what the unit may look at. proofs/ValidElements.antt shows that their answers
+-- are equal in every bit.
 use Prim.Native.Nat.{ℕ, _<_}
 use mathlib.Core.Path.{_≡_}
 use mathlib.Core.List.{List}

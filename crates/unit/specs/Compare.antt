@@ -1,4 +1,5 @@
--- From the comparisons of single elements to IntRes2 (Intel SSE4 reference, 5.3.1.2, 5.3.1.3 and 5.3.1.5).
+-- From the comparisons of single elements to IntRes2 (Intel SSE4 reference, 5.3.1.2, 5.3.1.3 and
+-- 5.3.1.5).
 use Prim.Native.Nat.{ℕ, _+_, _*_, _-_, _/_, _%_}
 use mathlib.Core.Bool.{Bool, true, false, cond, not, _&&_}
 use mathlib.Core.List.{List}
@@ -14,7 +15,8 @@ use Rattle.unit.specs.declared.Polarity.{Polarity}
 use Rattle.unit.specs.declared.Polarity.the-variants.{Positive, Negative, MaskedPositive, MaskedNegative}
 use Rattle.unit.specs.Operand.{count, valueOf}
 
--- The two operands as the unit sees them: the control, and of each operand its elements and its effective length.
+-- The two operands as the unit sees them: the control, and of each operand its elements and its
+-- effective length.
 pub record Operands : Type 0 where
   pub control : Control
   pub elements₁ : List ℕ
@@ -25,7 +27,8 @@ pub record Operands : Type 0 where
 abbrev pub operands : Control → List ℕ → ℕ → List ℕ → ℕ → Operands
 operands k x₁ l₁ x₂ l₂ = record { control = k; elements₁ = x₁; length₁ = l₁; elements₂ = x₂; length₂ = l₂ }
 
--- The comparison of operand 2's element y with operand 1's element x, whose index is even or odd (table 5-2).
+-- The comparison of operand 2's element y with operand 1's element x, whose index is even or odd
+-- (table 5-2).
 abbrev pub compared : Aggregation → (ℕ → ℤ) → Bool → ℕ → ℕ → Bool
 compared Ranges value true y x = leZ (value x) (value y)
 compared Ranges value false y x = leZ (value y) (value x)
@@ -33,8 +36,8 @@ compared EqualAny value even y x = eqb y x
 compared EqualEach value even y x = eqb y x
 compared EqualOrdered value even y x = eqb y x
 
--- What a comparison is forced to where an element is invalid (table 5-7): the aggregation, whether operand 1's element is valid,
--- whether operand 2's is, and the comparison.
+-- What a comparison is forced to where an element is invalid (table 5-7): the aggregation, whether
+-- operand 1's element is valid, whether operand 2's is, and the comparison.
 abbrev pub override : Aggregation → Bool → Bool → Bool → Bool
 override a true true r = r
 override a true false r = false

@@ -1,4 +1,5 @@
--- An operand: how many elements it has, what they are, what they stand for, and how many of them are valid.
+-- An operand: how many elements it has, what they are, what they stand for, and how many of them
+-- are valid.
 use Prim.Native.Nat.{ℕ, suc, _+_, _*_, _-_, _^_, min}
 use mathlib.Core.Bool.{Bool, true, false, cond}
 use mathlib.Core.List.{List, [], _∷_}

@@ -1,4 +1,5 @@
--- What the parts of the unit say, for the contracts of its private functions. A reader of the four calls needs none of it.
+-- What the parts of the unit say, for the contracts of its private functions. A reader of the four
+-- calls needs none of it.
 use Prim.Native.Nat.{ℕ, _+_, _*_, _-_, _/_, _%_, _^_}
 use mathlib.Core.Bool.{Bool, false, cond, not, _&&_}
 use mathlib.Core.List.{List, _∷_}

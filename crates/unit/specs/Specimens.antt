@@ -1,4 +1,5 @@
--- The worked examples U1 to U9 of document 01, with every value that it gives, in one list that one computed check covers.
+-- The worked examples U1 to U9 of document 01, with every value that it gives, in one list that one
+-- computed check covers.
 use Prim.Native.Nat.{ℕ, _+_, _*_}
 use mathlib.Core.Bool.{Bool, true, not, _&&_}
 use mathlib.Core.List.{List, [], _∷_, _++_}

@@ -1,6 +1,7 @@
-// The string compare unit of SSE4.2 as a definition: its types here, what they mean in specs/ (after the
-// Intel SSE4 Programming Reference, section 5.3 and the four instruction pages), its laws in proofs/.
-// There is no function here: `parts` and `modes` compute it and `pcmpstr` has the calls.
+// The string compare unit of SSE4.2 as a definition: its types here, what they mean in specs/
+// (after the Intel SSE4 Programming Reference, section 5.3 and the four instruction pages), its
+// laws in proofs/. There is no function here: `parts` and `modes` compute it and `pcmpstr` has the
+// calls.
 
 // Refusal number 1: the control is above 127. Number 0 stands for an accepted call.
 pub const CONTROL_REFUSED: u32 = 1;
@@ -21,7 +22,8 @@ pub enum Polarity {
     MaskedNegative,
 }
 
-// The control byte, taken apart. `high` is output selection, bit 6: the most significant index, or the byte/word mask.
+// The control byte, taken apart. `high` is output selection, bit 6: the most significant index, or
+// the byte/word mask.
 pub struct Control {
     pub words: bool,
     pub signed: bool,
@@ -40,7 +42,8 @@ pub struct Flags {
     pub parity: bool,
 }
 
-// The answer of the index calls. Refused, `refusal` is the number and every other field zero or false.
+// The answer of the index calls. Refused, `refusal` is the number and every other field zero or
+// false.
 pub struct IndexAnswer {
     pub refusal: u32,
     pub index: u32,
@@ -54,7 +57,8 @@ pub struct MaskAnswer {
     pub flags: Flags,
 }
 
-// IntRes2 as a number, bit j of it bit j of the number, and the effective lengths of the two operands.
+// IntRes2 as a number, bit j of it bit j of the number, and the effective lengths of the two
+// operands.
 pub struct Compared {
     pub bits: u32,
     pub length1: usize,

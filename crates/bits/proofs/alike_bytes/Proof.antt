@@ -1,4 +1,5 @@
--- `bits::alike_bytes` meets its contract: the two halves are the low and the high eight bits of one number. Assumes nothing.
+-- `bits::alike_bytes` meets its contract: the two halves are the low and the high eight bits of one
+-- number. Assumes nothing.
 use borrow.Author.Needs.{needs}
 use native.Mathlib.Omega.{arith}
 use lib.Dec.{eqb}

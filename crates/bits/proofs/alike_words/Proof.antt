@@ -1,4 +1,5 @@
--- `bits::alike_words` meets its contract: eight bits written out are the number of those bits. Assumes nothing.
+-- `bits::alike_words` meets its contract: eight bits written out are the number of those bits.
+-- Assumes nothing.
 use mathlib.Core.Path.{_∙_}
 use borrow.Author.Needs.{needs}
 use lib.Dec.{eqb}

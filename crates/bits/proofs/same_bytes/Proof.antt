@@ -1,4 +1,5 @@
--- `bits::same_bytes` meets its contract: a block compared with one value is a block compared with that value 16 times. Assumes nothing.
+-- `bits::same_bytes` meets its contract: a block compared with one value is a block compared with
+-- that value 16 times. Assumes nothing.
 use mathlib.Core.Path.{_∙_}
 use borrow.Author.Needs.{needs}
 use Rattle.bits.proofs.Numbers.{number-repeated}

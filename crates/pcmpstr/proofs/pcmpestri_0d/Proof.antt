@@ -1,5 +1,5 @@
--- `pcmpstr::pcmpestri_0d` meets its contract: at that control IntRes2 is the number of the mode, and the index its least bit.
--- Assumes nothing.
+-- `pcmpstr::pcmpestri_0d` meets its contract: at that control IntRes2 is the number of the mode,
+-- and the index its least bit. Assumes nothing.
 use mathlib.Core.Path.{_∙_}
 use mathlib.Core.Bool.{true}
 use lib.IntN.{pos}

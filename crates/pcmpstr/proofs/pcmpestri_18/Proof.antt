@@ -1,5 +1,5 @@
--- `pcmpstr::pcmpestri_18` meets its contract: at that control IntRes2 is the number of `differ`, and the index its least bit.
--- Assumes nothing.
+-- `pcmpstr::pcmpestri_18` meets its contract: at that control IntRes2 is the number of `differ`,
+-- and the index its least bit. Assumes nothing.
 use mathlib.Core.Path.{_∙_}
 use mathlib.Core.Bool.{false, not}
 use lib.IntN.{pos}

@@ -1,5 +1,5 @@
--- `pcmpstr::pcmpistri` meets its contract, the definition of PCMPISTRI: refused above 127, else what the parts say of the operands, put together.
--- Assumes nothing.
+-- `pcmpstr::pcmpistri` meets its contract, the definition of PCMPISTRI: refused above 127, else
+-- what the parts say of the operands, put together. Assumes nothing.
 use mathlib.Core.Path.{refl, _∙_}
 use Rattle.unit.specs.Control.{controlOf}
 use Rattle.unit.specs.Output.{indexAnswer, refusedIndex}

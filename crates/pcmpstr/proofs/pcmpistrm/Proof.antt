@@ -1,5 +1,5 @@
--- `pcmpstr::pcmpistrm` meets its contract, the definition of PCMPISTRM: refused above 127, else what the parts say of the operands, put together.
--- Assumes nothing.
+-- `pcmpstr::pcmpistrm` meets its contract, the definition of PCMPISTRM: refused above 127, else
+-- what the parts say of the operands, put together. Assumes nothing.
 use mathlib.Core.Path.{refl, _∙_}
 use Rattle.unit.specs.Control.{controlOf}
 use Rattle.unit.specs.Output.{maskAnswer, refusedMask}

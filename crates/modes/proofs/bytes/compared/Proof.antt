@@ -1,4 +1,5 @@
--- `modes::bytes::compared` meets its contract: IntRes1 with the polarity's bits negated is IntRes2. Assumes nothing.
+-- `modes::bytes::compared` meets its contract: IntRes1 with the polarity's bits negated is IntRes2.
+-- Assumes nothing.
 use mathlib.Core.Bool.{false}
 use Rattle.unit.proofs.Unit.{compared-is}
 use borrow.Author.Needs.{needs}

@@ -1,5 +1,5 @@
--- `modes::bytes::differ` meets its contract: with one length for both, the valid elements that differ; else equal each with every bit negated.
--- Assumes nothing.
+-- `modes::bytes::differ` meets its contract: with one length for both, the valid elements that
+-- differ; else equal each with every bit negated. Assumes nothing.
 use Prim.Native.Nat.{ℕ}
 use mathlib.Core.Path.{ap, _∙_}
 use mathlib.Core.Bool.{true, not}

@@ -1,4 +1,5 @@
--- `modes::bytes::explicit` meets its contract: it hands on the elements and effective lengths that the definition names. Assumes nothing.
+-- `modes::bytes::explicit` meets its contract: it hands on the elements and effective lengths that
+-- the definition names. Assumes nothing.
 use mathlib.Core.Path.{refl}
 use mathlib.Core.Bool.{false}
 use mir.Syntax.{w32}

@@ -1,4 +1,5 @@
--- `modes::bytes::implicit` meets its contract: it hands on the elements and effective lengths that the definition names. Assumes nothing.
+-- `modes::bytes::implicit` meets its contract: it hands on the elements and effective lengths that
+-- the definition names. Assumes nothing.
 use mathlib.Core.Path.{refl}
 use mathlib.Core.Bool.{false}
 use Rattle.bits.proofs.Below.{least-within}

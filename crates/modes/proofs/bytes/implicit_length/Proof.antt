@@ -1,4 +1,5 @@
--- `modes::bytes::implicit_length` meets its contract. The invariant: none of the first i elements is zero. Assumes nothing.
+-- `modes::bytes::implicit_length` meets its contract. The invariant: none of the first i elements
+-- is zero. Assumes nothing.
 use Prim.Native.Nat.{ℕ, _≤_, _<_, _-_}
 use mathlib.Core.Path.{_≡_, _∙_, sym}
 use borrow.Author.Count.{below-more}

@@ -1,5 +1,5 @@
--- `modes::bytes::value` meets its contract: an element is small enough that neither the cast nor the difference loses anything.
--- Assumes nothing.
+-- `modes::bytes::value` meets its contract: an element is small enough that neither the cast nor
+-- the difference loses anything. Assumes nothing.
 use mathlib.Core.Path.{sym, _∙_}
 use mathlib.Core.Bool.{false}
 use lib.IntN.{pos, _-ℤ_}

@@ -1,4 +1,5 @@
--- `modes::bytes::within` meets its contract. The invariant: the first j elements of the row are filled. Assumes nothing.
+-- `modes::bytes::within` meets its contract. The invariant: the first j elements of the row are
+-- filled. Assumes nothing.
 use Prim.Native.Nat.{_≤_, _-_}
 use mathlib.Core.Path.{_≡_, refl, ap}
 use mathlib.Core.Bool.{cond, false}

@@ -1,4 +1,5 @@
--- `modes::words::aggregated` meets its contract: each mode's number is that of IntRes1 at its aggregation. Assumes nothing.
+-- `modes::words::aggregated` meets its contract: each mode's number is that of IntRes1 at its
+-- aggregation. Assumes nothing.
 use mathlib.Core.Path.{_∙_}
 use mathlib.Core.Bool.{true}
 use Rattle.unit.proofs.Unit.{any-is, ranges-is, each-is, ordered-is}

@@ -1,4 +1,5 @@
--- `modes::words::compared` meets its contract: IntRes1 with the polarity's bits negated is IntRes2. Assumes nothing.
+-- `modes::words::compared` meets its contract: IntRes1 with the polarity's bits negated is IntRes2.
+-- Assumes nothing.
 use mathlib.Core.Bool.{true}
 use Rattle.unit.proofs.Unit.{compared-is}
 use borrow.Author.Needs.{needs}

@@ -1,5 +1,5 @@
--- `modes::words::differ_at` meets its contract: with one length for both, the first word that differs; else the least bit of equal each with every bit negated.
--- Assumes nothing.
+-- `modes::words::differ_at` meets its contract: with one length for both, the first word that
+-- differs; else the least bit of equal each with every bit negated. Assumes nothing.
 use Prim.Native.Nat.{ℕ}
 use mathlib.Core.Path.{ap, _∙_}
 use mathlib.Core.Bool.{true, not}

@@ -1,5 +1,6 @@
--- `modes::words::equal_any` meets its contract. The invariant: `found` has the bits of the valid elements of x2 that are among the first i of
--- x1. Where every valid one is found, the rest of x1 adds nothing. Assumes nothing.
+-- `modes::words::equal_any` meets its contract. The invariant: `found` has the bits of the valid
+-- elements of x2 that are among the first i of x1. Where every valid one is found, the rest of x1
+-- adds nothing. Assumes nothing.
 use Prim.Native.Nat.{_≤_, _+_, _-_}
 use mathlib.Core.Path.{_≡_}
 use Rattle.bits.specs.Bits.{numberOf}

@@ -1,4 +1,5 @@
--- `modes::words::equal_each` meets its contract, bit by bit: equal and both valid, or both invalid. Assumes nothing.
+-- `modes::words::equal_each` meets its contract, bit by bit: equal and both valid, or both invalid.
+-- Assumes nothing.
 use Rattle.bits.proofs.Numbers.{eight-ones}
 use Rattle.unit.proofs.Modes.{each-made}
 use borrow.Author.Needs.{needs}

@@ -1,5 +1,6 @@
--- `modes::words::equal_ordered` meets its contract. The invariant: bit j of `left` says that the first i elements of x1 stand in x2 from j on,
--- as far as the block goes. Where none is left, no longer part stands either. Assumes nothing.
+-- `modes::words::equal_ordered` meets its contract. The invariant: bit j of `left` says that the
+-- first i elements of x1 stand in x2 from j on, as far as the block goes. Where none is left, no
+-- longer part stands either. Assumes nothing.
 use Prim.Native.Nat.{_≤_, _+_, _-_}
 use mathlib.Core.Path.{_≡_, _∙_}
 use Rattle.bits.specs.Bits.{numberOf}

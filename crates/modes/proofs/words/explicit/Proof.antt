@@ -1,4 +1,5 @@
--- `modes::words::explicit` meets its contract: it hands on the elements and effective lengths that the definition names. Assumes nothing.
+-- `modes::words::explicit` meets its contract: it hands on the elements and effective lengths that
+-- the definition names. Assumes nothing.
 use mathlib.Core.Bool.{true}
 use mir.Syntax.{w32}
 use mir.ValLaws.{toZ-ofZ}

@@ -1,4 +1,5 @@
--- `modes::words::implicit` meets its contract: it hands on the elements and effective lengths that the definition names. Assumes nothing.
+-- `modes::words::implicit` meets its contract: it hands on the elements and effective lengths that
+-- the definition names. Assumes nothing.
 use mathlib.Core.Bool.{true}
 use Rattle.bits.proofs.Below.{least-within}
 use Rattle.unit.proofs.Unit.{implicit-is, words-count}

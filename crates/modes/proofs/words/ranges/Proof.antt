@@ -1,5 +1,5 @@
--- `modes::words::ranges` meets its contract. The invariant: the row marks the elements of x2 that lie in one of the first i ranges. Assumes
--- nothing.
+-- `modes::words::ranges` meets its contract. The invariant: the row marks the elements of x2 that
+-- lie in one of the first i ranges. Assumes nothing.
 use Prim.Native.Nat.{_≤_, _-_}
 use mathlib.Core.Path.{_≡_, refl}
 use mathlib.Core.Bool.{cond, true}

@@ -1,4 +1,5 @@
--- `modes::words::same_length_differ_at` meets its contract. The invariant: the first i words are alike. Assumes nothing.
+-- `modes::words::same_length_differ_at` meets its contract. The invariant: the first i words are
+-- alike. Assumes nothing.
 use Prim.Native.Nat.{ℕ, _≤_, _<_, _-_}
 use mathlib.Core.Path.{_≡_, sym}
 use borrow.Author.Count.{below-more}

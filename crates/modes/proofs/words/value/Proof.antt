@@ -1,5 +1,5 @@
--- `modes::words::value` meets its contract: an element is small enough that neither the cast nor the difference loses anything.
--- Assumes nothing.
+-- `modes::words::value` meets its contract: an element is small enough that neither the cast nor
+-- the difference loses anything. Assumes nothing.
 use mathlib.Core.Path.{sym, _∙_}
 use mathlib.Core.Bool.{true}
 use lib.IntN.{pos, _-ℤ_}

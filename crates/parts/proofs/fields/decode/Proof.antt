@@ -1,4 +1,5 @@
--- `parts::fields::decode` meets its contract: it reads the fields as the definition does. Assumes nothing.
+-- `parts::fields::decode` meets its contract: it reads the fields as the definition does. Assumes
+-- nothing.
 use Rattle.unit.specs.Control.{controlOf}
 use borrow.Author.Needs.{needs}
 use Rattle.parts.proofs.fields.decode.Statement.{statement}

@@ -1,5 +1,5 @@
--- `parts::mask::byte_mask` meets its contract. The invariant: the first i bytes of the mask are filled, each from the bit of its element.
--- Assumes nothing.
+-- `parts::mask::byte_mask` meets its contract. The invariant: the first i bytes of the mask are
+-- filled, each from the bit of its element. Assumes nothing.
 use Prim.Native.Nat.{_≤_, _-_, _/_, _%_, _^_}
 use mathlib.Core.Path.{_≡_, refl}
 use mathlib.Core.Bool.{cond}

@@ -1,4 +1,5 @@
--- `parts::negation::negated` meets its contract, polarity by polarity: no bit, all b bits, or those of the valid elements. Assumes nothing.
+-- `parts::negation::negated` meets its contract, polarity by polarity: no bit, all b bits, or those
+-- of the valid elements. Assumes nothing.
 use Rattle.bits.proofs.Numbers.{no-bits}
 use Rattle.unit.proofs.Unit.{negated-all, negated-valid}
 use borrow.Author.Needs.{needs}

@@ -1,4 +1,5 @@
--- `parts::operand::explicit_length` meets its contract: b is at most 16, so what was cut to 16 is cut to b. Assumes nothing.
+-- `parts::operand::explicit_length` meets its contract: b is at most 16, so what was cut to 16 is
+-- cut to b. Assumes nothing.
 use borrow.Author.Needs.{needs}
 use mir.Syntax.{w32}
 use mir.ValLaws.{toZ-ofZ}

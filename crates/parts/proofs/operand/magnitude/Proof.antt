@@ -1,5 +1,5 @@
--- `parts::operand::magnitude` meets its contract: a length from 16 up or from -16 down is cut first, and only one from -15 to -1 is negated.
--- Assumes nothing.
+-- `parts::operand::magnitude` meets its contract: a length from 16 up or from -16 down is cut
+-- first, and only one from -15 to -1 is negated. Assumes nothing.
 use mathlib.Core.Path.{_≡_, _∙_}
 use Prim.Native.Nat.{_<_}
 use native.Mathlib.Omega.{arith}

@@ -1,4 +1,5 @@
--- `parts::operand::words_of` meets its contract. The invariant: the first i words are filled. Assumes nothing.
+-- `parts::operand::words_of` meets its contract. The invariant: the first i words are filled.
+-- Assumes nothing.
 use Prim.Native.Nat.{_≤_, _-_}
 use mathlib.Core.Path.{_≡_, refl}
 use lib.ListN.{length, take}
