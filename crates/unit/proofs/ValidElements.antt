@@ -1,7 +1,7 @@
 -- The answer depends on the control, the effective lengths and the valid elements only: any two
 -- index calls, and any two mask calls, explicit or implicit, that agree on these (specs/Agree.antt)
--- answer alike in every bit. Table 5-7 is the reason: a comparison counts only where both of its
--- elements are valid. Assumes nothing.
+-- answer alike in every bit. Table 5-7 is the reason (Forced.antt): a comparison counts only where both
+-- of its elements are valid. Assumes nothing.
 use Prim.Native.Nat.{ℕ, _<_, _/_, _%_}
 use mathlib.Core.Path.{_≡_, refl, sym, ap, _∙_}
 use mathlib.Core.Bool.{Bool, true, false, cond}
@@ -11,23 +11,13 @@ use lib.ListN.{getD, replicate}
 use borrow.Author.Tests.{ltb-true}
 use Rattle.bits.specs.Bits.{anyBelow, leastBelow, greatestBelow, numberOf, tabulate}
 use Rattle.unit.specs.declared.Control.{Control}
-use Rattle.unit.specs.declared.Aggregation.{Aggregation}
-use Rattle.unit.specs.declared.Aggregation.the-variants.{EqualAny, Ranges, EqualEach, EqualOrdered}
 use Rattle.unit.specs.Control.{controlOf}
 use Rattle.unit.specs.Operand.{count, valueOf}
-use Rattle.unit.specs.Compare.{Operands, operands, override, compared, aggregated, withPolarity, boolRes, intRes1, intRes2}
+use Rattle.unit.specs.Compare.{Operands, operands, compared, aggregated, withPolarity, boolRes, intRes1, intRes2}
 use Rattle.unit.specs.Output.{indexOf, bitMask, elementMask, maskOf, flagsOf, indexAnswer, maskAnswer, refusedIndex, refusedMask}
 use Rattle.unit.specs.Calls.{PCMPESTRI, PCMPESTRM, PCMPISTRI, PCMPISTRM}
 use Rattle.unit.specs.Agree.{Call, Explicit, Implicit, indexCall, maskCall, controlByte, operandsOf, Agree}
-
--- only the comparison of two valid elements counts
-valid-only : (a : Aggregation) (v w r s : Bool) → (v ≡ true → w ≡ true → r ≡ s) → override a v w r ≡ override a v w s
-valid-only a true true r s h = h refl refl
-valid-only a true false r s h = refl
-valid-only EqualAny false w r s h = refl
-valid-only Ranges false w r s h = refl
-valid-only EqualEach false w r s h = refl
-valid-only EqualOrdered false w r s h = refl
+use Rattle.unit.proofs.Forced.{valid-only}
 
 -- operands that differ in invalid elements only
 module _ (k : Control) (l₁ l₂ : ℕ) (x₁ x₂ y₁ y₂ : List ℕ) (p : (i : ℕ) → i < l₁ → getD x₁ i 0 ≡ getD y₁ i 0) (q : (i : ℕ) → i < l₂ → getD x₂ i 0 ≡ getD y₂ i 0) where

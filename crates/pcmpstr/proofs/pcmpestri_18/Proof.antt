@@ -19,7 +19,7 @@ min-requires-2 c κs = search needs
 
 differ-requires : tie.Need-differ-requires
 differ-requires c κs =
-    (omega (arith, c .before .before .before .min .ensures), omega (arith, c .before .before .min2 .ensures))
+    (omega (arith, c .before .before .before .min .ensures, c .before .before .min2 .ensures), omega (arith, c .before .before .before .min .ensures, c .before .before .min2 .ensures))
 
 least-requires : tie.Need-least-requires
 least-requires c κs = search needs

@@ -22,7 +22,7 @@ min-requires-2 c κs = search needs
 
 differ-at-requires : tie.Need-differ-at-requires
 differ-at-requires c κs =
-    (omega (arith, c .before .before .before .min .ensures), omega (arith, c .before .before .min2 .ensures))
+    (omega (arith, c .before .before .before .min .ensures, c .before .before .min2 .ensures), omega (arith, c .before .before .before .min .ensures, c .before .before .min2 .ensures))
 
 returns : tie.Need-returns
 returns c =

@@ -5,11 +5,11 @@ use Rattle.unit.specs.declared.IndexAnswer.{IndexAnswer}
 use Rattle.capi.specs.Crossing.{IndexGiven}
 use mir.Syntax.{w32}
 use mir.ValLaws.{toZ-ofZ}
-use Rattle.capi.proofs.unit.hx_pcmpestri.Statement.{statement}
-use Rattle.capi.proofs.unit.hx_pcmpestri.Tie as tie
-use Rattle.capi.proofs.unit.hx_pcmpestri.Reads as reads
-use Rattle.capi.proofs.unit.hx_pcmpestri.Lts as lts
-use Rattle.capi.proofs.unit.give_index.Reads as give-index-reads
+use Rattle.capi.proofs.instructions.hx_pcmpestri.Statement.{statement}
+use Rattle.capi.proofs.instructions.hx_pcmpestri.Tie as tie
+use Rattle.capi.proofs.instructions.hx_pcmpestri.Reads as reads
+use Rattle.capi.proofs.instructions.hx_pcmpestri.Lts as lts
+use Rattle.capi.proofs.instructions.give_index.Reads as give-index-reads
 use Rattle.pcmpstr.proofs.pcmpestri.Reads as pcmpestri-reads
 
 pcmpestri-requires : tie.Need-pcmpestri-requires

@@ -5,11 +5,11 @@ use Rattle.unit.specs.declared.MaskAnswer.{MaskAnswer}
 use Rattle.capi.specs.Crossing.{MaskGiven}
 use mir.Syntax.{w32}
 use mir.ValLaws.{toZ-ofZ}
-use Rattle.capi.proofs.unit.hx_pcmpestrm.Statement.{statement}
-use Rattle.capi.proofs.unit.hx_pcmpestrm.Tie as tie
-use Rattle.capi.proofs.unit.hx_pcmpestrm.Reads as reads
-use Rattle.capi.proofs.unit.hx_pcmpestrm.Lts as lts
-use Rattle.capi.proofs.unit.give_mask.Reads as give-mask-reads
+use Rattle.capi.proofs.instructions.hx_pcmpestrm.Statement.{statement}
+use Rattle.capi.proofs.instructions.hx_pcmpestrm.Tie as tie
+use Rattle.capi.proofs.instructions.hx_pcmpestrm.Reads as reads
+use Rattle.capi.proofs.instructions.hx_pcmpestrm.Lts as lts
+use Rattle.capi.proofs.instructions.give_mask.Reads as give-mask-reads
 use Rattle.pcmpstr.proofs.pcmpestrm.Reads as pcmpestrm-reads
 
 pcmpestrm-requires : tie.Need-pcmpestrm-requires

@@ -1,11 +1,11 @@
 -- Accepted, index and flags are written; refused, they stay. Assumes nothing.
 use borrow.Author.Needs.{needs}
 use Rattle.capi.proofs.Crossings.{index-kept, index-written}
-use Rattle.capi.proofs.unit.give_index.Statement.{statement}
-use Rattle.capi.proofs.unit.give_index.Tie as tie
-use Rattle.capi.proofs.unit.give_index.Reads as reads
-use Rattle.capi.proofs.unit.give_index.Lts as lts
-use Rattle.capi.proofs.unit.eflags.Reads as eflags-reads
+use Rattle.capi.proofs.instructions.give_index.Statement.{statement}
+use Rattle.capi.proofs.instructions.give_index.Tie as tie
+use Rattle.capi.proofs.instructions.give_index.Reads as reads
+use Rattle.capi.proofs.instructions.give_index.Lts as lts
+use Rattle.capi.proofs.instructions.eflags.Reads as eflags-reads
 
 eflags-requires : tie.Need-eflags-requires
 eflags-requires c κs = search needs

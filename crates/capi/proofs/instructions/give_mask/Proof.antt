@@ -1,11 +1,11 @@
 -- Accepted, mask and flags are written; refused, they stay. Assumes nothing.
 use borrow.Author.Needs.{needs}
 use Rattle.capi.proofs.Crossings.{mask-kept, mask-written}
-use Rattle.capi.proofs.unit.give_mask.Statement.{statement}
-use Rattle.capi.proofs.unit.give_mask.Tie as tie
-use Rattle.capi.proofs.unit.give_mask.Reads as reads
-use Rattle.capi.proofs.unit.give_mask.Lts as lts
-use Rattle.capi.proofs.unit.eflags.Reads as eflags-reads
+use Rattle.capi.proofs.instructions.give_mask.Statement.{statement}
+use Rattle.capi.proofs.instructions.give_mask.Tie as tie
+use Rattle.capi.proofs.instructions.give_mask.Reads as reads
+use Rattle.capi.proofs.instructions.give_mask.Lts as lts
+use Rattle.capi.proofs.instructions.eflags.Reads as eflags-reads
 
 eflags-requires : tie.Need-eflags-requires
 eflags-requires c κs = search needs

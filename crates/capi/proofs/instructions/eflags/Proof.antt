@@ -1,10 +1,10 @@
 -- Six weighed bits, added in the order of the definition. Assumes nothing.
 use borrow.Author.Needs.{needs}
 use Rattle.capi.proofs.Crossings.{eflags-sum}
-use Rattle.capi.proofs.unit.eflags.Statement.{statement}
-use Rattle.capi.proofs.unit.eflags.Tie as tie
-use Rattle.capi.proofs.unit.eflags.Reads as reads
-use Rattle.capi.proofs.unit.eflags.Lts as lts
+use Rattle.capi.proofs.instructions.eflags.Statement.{statement}
+use Rattle.capi.proofs.instructions.eflags.Tie as tie
+use Rattle.capi.proofs.instructions.eflags.Reads as reads
+use Rattle.capi.proofs.instructions.eflags.Lts as lts
 use Rattle.capi.proofs.weighed.Reads as weighed-reads
 
 weighed-requires : tie.Need-weighed-requires

@@ -3,11 +3,11 @@ use borrow.Author.Needs.{needs}
 use mathlib.Core.Path.{subst}
 use Rattle.unit.specs.declared.MaskAnswer.{MaskAnswer}
 use Rattle.capi.specs.Crossing.{MaskGiven}
-use Rattle.capi.proofs.unit.hx_pcmpistrm.Statement.{statement}
-use Rattle.capi.proofs.unit.hx_pcmpistrm.Tie as tie
-use Rattle.capi.proofs.unit.hx_pcmpistrm.Reads as reads
-use Rattle.capi.proofs.unit.hx_pcmpistrm.Lts as lts
-use Rattle.capi.proofs.unit.give_mask.Reads as give-mask-reads
+use Rattle.capi.proofs.instructions.hx_pcmpistrm.Statement.{statement}
+use Rattle.capi.proofs.instructions.hx_pcmpistrm.Tie as tie
+use Rattle.capi.proofs.instructions.hx_pcmpistrm.Reads as reads
+use Rattle.capi.proofs.instructions.hx_pcmpistrm.Lts as lts
+use Rattle.capi.proofs.instructions.give_mask.Reads as give-mask-reads
 use Rattle.pcmpstr.proofs.pcmpistrm.Reads as pcmpistrm-reads
 
 pcmpistrm-requires : tie.Need-pcmpistrm-requires

@@ -3,11 +3,11 @@ use borrow.Author.Needs.{needs}
 use mathlib.Core.Path.{subst}
 use Rattle.unit.specs.declared.IndexAnswer.{IndexAnswer}
 use Rattle.capi.specs.Crossing.{IndexGiven}
-use Rattle.capi.proofs.unit.hx_pcmpistri.Statement.{statement}
-use Rattle.capi.proofs.unit.hx_pcmpistri.Tie as tie
-use Rattle.capi.proofs.unit.hx_pcmpistri.Reads as reads
-use Rattle.capi.proofs.unit.hx_pcmpistri.Lts as lts
-use Rattle.capi.proofs.unit.give_index.Reads as give-index-reads
+use Rattle.capi.proofs.instructions.hx_pcmpistri.Statement.{statement}
+use Rattle.capi.proofs.instructions.hx_pcmpistri.Tie as tie
+use Rattle.capi.proofs.instructions.hx_pcmpistri.Reads as reads
+use Rattle.capi.proofs.instructions.hx_pcmpistri.Lts as lts
+use Rattle.capi.proofs.instructions.give_index.Reads as give-index-reads
 use Rattle.pcmpstr.proofs.pcmpistri.Reads as pcmpistri-reads
 
 pcmpistri-requires : tie.Need-pcmpistri-requires
