@@ -41,7 +41,7 @@ fn equal_any(x1: &[u8; 16], l1: usize, x2: &[u8; 16], l2: usize) -> u32
     let mut found = 0u32;
     let mut i = 0;
     while i < l1 {
-        found = found | (bits::same_bytes(x2, x1[i]) & valid);
+        found = found | (alike::same_bytes(x2, x1[i]) & valid);
         if found == valid {
             return found;
         }
@@ -97,7 +97,7 @@ fn ranges(signed: bool, x1: [u8; 16], n: usize, x2: [u8; 16], l2: usize) -> u32
         row = within(signed, x2, x1[at], x1[at + 1], row);
         i += 1;
     }
-    bits::same_bytes(&row, 255) & bits::first(l2)
+    alike::same_bytes(&row, 255) & bits::first(l2)
 }
 
 // Bit j: the elements at j are equal, or both invalid.
@@ -107,7 +107,7 @@ fn equal_each(x1: &[u8; 16], l1: usize, x2: &[u8; 16], l2: usize) -> u32
 {
     let v1 = bits::first(l1);
     let v2 = bits::first(l2);
-    (bits::alike_bytes(x2, x1) & v1 & v2) | ((v1 | v2) ^ 0xffff)
+    (alike::alike_bytes(x2, x1) & v1 & v2) | ((v1 | v2) ^ 0xffff)
 }
 
 // Bit j: equal each, negated. Parts of one length, as a search compares them, differ at a valid
@@ -116,7 +116,7 @@ pub fn differ(x1: &[u8; 16], l1: usize, x2: &[u8; 16], l2: usize) -> u32
     requires { ⌜ (l1 ≤ 16) × (l2 ≤ 16) ⌝ }
     ensures { λ r. ⌜ r ≡ numberOf 16 (λ j. not (eachOf (now (x1 .entry)) l1 (now (x2 .entry)) l2 j)) ⌝ }
 {
-    let same = bits::alike_bytes(x2, x1);
+    let same = alike::alike_bytes(x2, x1);
     if l1 == l2 {
         return (same ^ 0xffff) & bits::first(l1);
     }
@@ -140,7 +140,7 @@ pub fn equal_ordered(x1: &[u8; 16], l1: usize, x2: &[u8; 16], l2: usize, valid: 
     let mut left = 0x4000ffffu32;
     let mut i = 0;
     while i < l1 {
-        left = (left & ((bits::same_bytes(x2, x1[i]) & valid) | 0xffff0000)) << 1;
+        left = (left & ((alike::same_bytes(x2, x1[i]) & valid) | 0xffff0000)) << 1;
         if left == 0 {
             return 0;
         }

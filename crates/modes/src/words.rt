@@ -41,7 +41,7 @@ fn equal_any(x1: &[u16; 8], l1: usize, x2: &[u16; 8], l2: usize) -> u32
     let mut found = 0u32;
     let mut i = 0;
     while i < l1 {
-        found = found | (bits::same_words(x2, x1[i]) & valid);
+        found = found | (alike::same_words(x2, x1[i]) & valid);
         if found == valid {
             return found;
         }
@@ -101,7 +101,7 @@ fn ranges(signed: bool, x1: [u16; 8], n: usize, x2: [u16; 8], l2: usize) -> u32
         row = within(signed, x2, x1[at], x1[at + 1], row);
         i += 1;
     }
-    bits::same_words(&row, 65535) & bits::first(l2)
+    alike::same_words(&row, 65535) & bits::first(l2)
 }
 
 // Bit j: the elements at j are equal, or both invalid.
@@ -111,7 +111,7 @@ fn equal_each(x1: &[u16; 8], l1: usize, x2: &[u16; 8], l2: usize) -> u32
 {
     let v1 = bits::first(l1);
     let v2 = bits::first(l2);
-    (bits::alike_words(x2, x1) & v1 & v2) | ((v1 | v2) ^ 0xff)
+    (alike::alike_words(x2, x1) & v1 & v2) | ((v1 | v2) ^ 0xff)
 }
 
 // Where two parts of one length first differ, or 8. Word by word: the compiler makes no mask of a
@@ -154,7 +154,7 @@ pub fn equal_ordered(x1: &[u16; 8], l1: usize, x2: &[u16; 8], l2: usize) -> u32
     let mut left = 0xffu32;
     let mut i = 0;
     while i < l1 {
-        let found = (bits::same_words(x2, x1[i]) & valid) | 0xffffff00;
+        let found = (alike::same_words(x2, x1[i]) & valid) | 0xffffff00;
         left = left & (found >> (i as u32));
         if left < ((i + 15) / 16) as u32 {
             return 0;

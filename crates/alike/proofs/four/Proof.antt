@@ -1,7 +1,7 @@
--- `bits::four` meets its contract: a sum of bits, written out. Assumes nothing.
+-- `alike::four` meets its contract: a sum of bits, written out. Assumes nothing.
 use borrow.Author.Needs.{needs}
-use Rattle.bits.proofs.four.Statement.{statement}
-use Rattle.bits.proofs.four.Tie as tie
+use Rattle.alike.proofs.four.Statement.{statement}
+use Rattle.alike.proofs.four.Tie as tie
 
 bit-requires : tie.Need-bit-requires
 bit-requires c κs = search needs

@@ -1,12 +1,12 @@
--- `bits::alike_words` meets its contract: eight bits written out are the number of those bits.
+-- `alike::alike_words` meets its contract: eight bits written out are the number of those bits.
 -- Assumes nothing.
 use mathlib.Core.Path.{_∙_}
 use borrow.Author.Needs.{needs}
 use lib.Dec.{eqb}
 use lib.ListN.{getD}
 use Rattle.bits.proofs.Numbers.{number-eight}
-use Rattle.bits.proofs.alike_words.Statement.{statement}
-use Rattle.bits.proofs.alike_words.Tie as tie
+use Rattle.alike.proofs.alike_words.Statement.{statement}
+use Rattle.alike.proofs.alike_words.Tie as tie
 
 alike-eight-requires : tie.Need-alike-eight-requires
 alike-eight-requires c κs = search needs

@@ -1,12 +1,12 @@
--- `bits::alike_bytes` meets its contract: the two halves are the low and the high eight bits of one
+-- `alike::alike_bytes` meets its contract: the two halves are the low and the high eight bits of one
 -- number. Assumes nothing.
 use borrow.Author.Needs.{needs}
 use native.Mathlib.Omega.{arith}
 use lib.Dec.{eqb}
 use lib.ListN.{getD}
 use Rattle.bits.proofs.Numbers.{number-sixteen}
-use Rattle.bits.proofs.alike_bytes.Statement.{statement}
-use Rattle.bits.proofs.alike_bytes.Tie as tie
+use Rattle.alike.proofs.alike_bytes.Statement.{statement}
+use Rattle.alike.proofs.alike_bytes.Tie as tie
 
 alike-low-requires : tie.Need-alike-low-requires
 alike-low-requires c κs = search needs

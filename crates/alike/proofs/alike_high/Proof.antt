@@ -1,7 +1,7 @@
--- `bits::alike_high` meets its contract: a sum of bits, written out. Assumes nothing.
+-- `alike::alike_high` meets its contract: a sum of bits, written out. Assumes nothing.
 use borrow.Author.Needs.{needs}
-use Rattle.bits.proofs.alike_high.Statement.{statement}
-use Rattle.bits.proofs.alike_high.Tie as tie
+use Rattle.alike.proofs.alike_high.Statement.{statement}
+use Rattle.alike.proofs.alike_high.Tie as tie
 
 element-copy-out-four : tie.Need-element-copy-out-four
 element-copy-out-four c = search needs

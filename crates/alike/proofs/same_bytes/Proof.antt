@@ -1,10 +1,10 @@
--- `bits::same_bytes` meets its contract: a block compared with one value is a block compared with
+-- `alike::same_bytes` meets its contract: a block compared with one value is a block compared with
 -- that value 16 times. Assumes nothing.
 use mathlib.Core.Path.{_∙_}
 use borrow.Author.Needs.{needs}
 use Rattle.bits.proofs.Numbers.{number-repeated}
-use Rattle.bits.proofs.same_bytes.Statement.{statement}
-use Rattle.bits.proofs.same_bytes.Tie as tie
+use Rattle.alike.proofs.same_bytes.Statement.{statement}
+use Rattle.alike.proofs.same_bytes.Tie as tie
 
 alike-bytes-requires : tie.Need-alike-bytes-requires
 alike-bytes-requires c κs = search needs

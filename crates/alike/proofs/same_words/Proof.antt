@@ -1,10 +1,10 @@
--- `bits::same_words` meets its contract: a block compared with one value is a block compared with
+-- `alike::same_words` meets its contract: a block compared with one value is a block compared with
 -- that value 8 times. Assumes nothing.
 use mathlib.Core.Path.{_∙_}
 use borrow.Author.Needs.{needs}
 use Rattle.bits.proofs.Numbers.{number-repeated}
-use Rattle.bits.proofs.same_words.Statement.{statement}
-use Rattle.bits.proofs.same_words.Tie as tie
+use Rattle.alike.proofs.same_words.Statement.{statement}
+use Rattle.alike.proofs.same_words.Tie as tie
 
 alike-words-requires : tie.Need-alike-words-requires
 alike-words-requires c κs = search needs
