@@ -1,4 +1,4 @@
--- What the parts of the unit say, for the contracts of its private functions. A reader of the four
+-- What the parts of the unit say, for the contracts of the crates `parts` and `modes`. A reader of the
 -- calls needs none of it.
 use Prim.Native.Nat.{ℕ, _+_, _*_, _-_, _/_, _%_, _^_}
 use mathlib.Core.Bool.{Bool, false, cond, not, _&&_}
