@@ -1,4 +1,5 @@
--- What a test tells; laws of `anyBelow`, `allBelow`, `leastBelow`, and the size of `numberOf`. Assumes nothing.
+-- What a test tells; laws of `anyBelow`, `allBelow`, `leastBelow`, and the size of `numberOf`.
+-- Assumes nothing.
 use Prim.Native.Nat.{ℕ, zero, suc, _+_, _-_, _^_, _≤_, _<_}
 use mathlib.Core.Path.{_≡_, refl, ap}
 use mathlib.Core.Bool.{Bool, true, false, cond, not, _&&_, _||_}

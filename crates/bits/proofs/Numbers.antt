@@ -1,4 +1,5 @@
--- Laws of `numberOf`, the number whose bit j is p j: its bits, what the machine's operations make of it, and its least and greatest bit. Assumes nothing.
+-- Laws of `numberOf`, the number whose bit j is p j: its bits, what the machine's operations make
+-- of it, and its least and greatest bit. Assumes nothing.
 use Prim.Native.Nat.{ℕ, zero, suc, _+_, _*_, _-_, _/_, _%_, _^_, _≤_, _<_, min, max}
 use mathlib.Core.Path.{_≡_, refl, sym, ap, subst, _∙_}
 use mathlib.Core.Bool.{Bool, true, false, cond, not, _&&_, _||_}

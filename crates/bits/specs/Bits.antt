@@ -1,4 +1,5 @@
--- Numbers below n that pass a test, a list by its elements, and a number by its bits. Each computes.
+-- Numbers below n that pass a test, a list by its elements, and a number by its bits. Each
+-- computes.
 use Prim.Native.Nat.{ℕ, zero, suc, _+_, _*_, _^_}
 use mathlib.Core.Bool.{Bool, true, false, cond, _&&_, _||_}
 use mathlib.Core.List.{List, [], _∷_, _++_}

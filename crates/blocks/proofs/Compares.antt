@@ -11,14 +11,14 @@ use native.Mathlib.Omega.{arith}
 use borrow.Author.Tests.{eq-eqb, ne-eqb}
 use Rattle.bits.specs.Bits.{leastBelow, greatestBelow, tabulate}
 use Rattle.bits.proofs.Lists.{getD-tabulate}
-use Rattle.pcmpstr.specs.declared.Control.{Control}
-use Rattle.pcmpstr.specs.Control.{controlOf}
-use Rattle.pcmpstr.specs.Operand.{count, elements, wordAt, wordsOf, explicitLength}
-use Rattle.pcmpstr.specs.Compare.{operands, boolRes, intRes1, intRes2}
-use Rattle.pcmpstr.specs.Output.{indexOf}
-use Rattle.pcmpstr.specs.Calls.{explicit, PCMPESTRI}
-use Rattle.pcmpstr.specs.Parts.{eachOf}
-use Rattle.pcmpstr.proofs.ValidElements.{bits-same}
+use Rattle.unit.specs.declared.Control.{Control}
+use Rattle.unit.specs.Control.{controlOf}
+use Rattle.unit.specs.Operand.{count, elements, wordAt, wordsOf, explicitLength}
+use Rattle.unit.specs.Compare.{operands, boolRes, intRes1, intRes2}
+use Rattle.unit.specs.Output.{indexOf}
+use Rattle.unit.specs.Calls.{explicit, PCMPESTRI}
+use Rattle.unit.specs.Parts.{eachOf}
+use Rattle.unit.proofs.ValidElements.{bits-same}
 use Rattle.blocks.specs.Blocks.{operandOf, compareIndex, eachNegated}
 
 -- ---- a part of a text, and its operand

@@ -6,7 +6,7 @@ use lib.Dec.{eqb}
 use lib.ListN.{length, getD, set}
 use lib.IntN.{pos}
 use Rattle.bits.specs.Bits.{tabulate}
-use Rattle.pcmpstr.specs.Calls.{PCMPESTRI}
+use Rattle.unit.specs.Calls.{PCMPESTRI}
 
 -- the most elements of a text
 abbrev pub longestText : ℕ

@@ -3,10 +3,9 @@
 //
 // Public calls: `whole_bytes` and `padded_bytes` for a part in bytes, `whole_words` and `padded_words`
 // for one in words; `fill_bytes`, which fills an operand in its place; `bytes_differ_at` and
-// `words_differ_at`, a compare of two parts; and `lesser`, by which a block's end is found. None asks
-// anything of its arguments. The two of a pair say the same: of a part that is too long the first
-// sixteen bytes, or eight words, are taken. `whole_..` is the quick one where the part is a whole
-// block, `padded_..` where it is shorter.
+// `words_differ_at`, a compare of two parts. None asks anything of its arguments. The two of a pair say
+// the same: of a part that is too long the first sixteen bytes, or eight words, are taken. `whole_..`
+// is the quick one where the part is a whole block, `padded_..` where it is shorter.
 ghost use mathlib.Core.Path.{_≡_};
 ghost use mathlib.Core.Bool.{true, false};
 ghost use Prim.Native.Nat.{_/_, _%_, min};
@@ -17,13 +16,6 @@ ghost use lib.ListN.{length};
 pub const LONGEST_TEXT: usize = 1048576;
 
 pub const TEXT_REFUSED: u32 = 2;
-
-// The lesser of two numbers.
-pub fn lesser(a: usize, b: usize) -> usize
-    ensures { λ r. ⌜ r ≡ min a b ⌝ }
-{
-    if a < b { a } else { b }
-}
 
 // The operand of a part in bytes, by sixteen reads with no test for each byte, which become one load.
 pub fn whole_bytes(part: &[u8]) -> [u8; 16]
@@ -57,7 +49,7 @@ pub fn whole_bytes(part: &[u8]) -> [u8; 16]
 pub fn fill_bytes(bytes: &mut [u8; 16], part: &[u8])
     ensures { λ _. ⌜ now (bytes .exit) ≡ stores (operandByte false (now (part .entry))) (min (length (now (part .entry))) 16) (now (bytes .entry)) ⌝ }
 {
-    let n = lesser(part.len(), 16);
+    let n = bits::min(part.len(), 16);
     let mut i = 0;
     while i < n {
         bytes[i] = part[i];
@@ -118,7 +110,7 @@ pub fn whole_words(part: &[u16]) -> [u8; 16]
 pub fn padded_words(part: &[u16]) -> [u8; 16]
     ensures { λ r. ⌜ r ≡ operandOf true (now (part .entry)) ⌝ }
 {
-    let n = lesser(part.len(), 8);
+    let n = bits::min(part.len(), 8);
     let mut bytes = [0u8; 16];
     let mut i = 0;
     while i < n {

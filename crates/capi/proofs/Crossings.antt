@@ -8,9 +8,9 @@ use lib.IntN.{ℤ, pos}
 use lib.ListN.{length}
 use lib.Signed.{ltZ}
 use borrow.Author.Tests.{eq-eqb, ne-eqb}
-use Rattle.pcmpstr.specs.declared.Flags.{Flags}
-use Rattle.pcmpstr.specs.declared.IndexAnswer.{IndexAnswer}
-use Rattle.pcmpstr.specs.declared.MaskAnswer.{MaskAnswer}
+use Rattle.unit.specs.declared.Flags.{Flags}
+use Rattle.unit.specs.declared.IndexAnswer.{IndexAnswer}
+use Rattle.unit.specs.declared.MaskAnswer.{MaskAnswer}
 use Rattle.search.specs.declared.Cursor.{Cursor}
 use Rattle.search.specs.declared.Next.{Next}
 use Rattle.search.specs.declared.Next.the-variants.{Match, Absent, Refused}

@@ -3,9 +3,9 @@
 // A call returns the number of a refusal, or 0, and writes its results through the caller's pointers; a refused call writes nothing. Operands and masks are
 // sixteen bytes behind a pointer, texts a pointer and a length. What crosses is defined in specs/Crossing.antt. This file has what several calls share.
 mod columns;
+mod instructions;
 mod order;
 mod span;
-mod unit;
 mod walk;
 
 ghost use mathlib.Core.Path.{_≡_};

@@ -14,7 +14,7 @@ use mir.Val.{SFits, toZ, ofZ}
 use mir.ValLaws.{toZ-ofZ}
 use mir.Facts.{sfits-widen}
 use borrow.Author.Tests.{ltb-false, eq-eqb, ne-eqb}
-use Rattle.pcmpstr.specs.Operand.{valueOf}
+use Rattle.unit.specs.Operand.{valueOf}
 use Rattle.blocks.specs.Blocks.{longestText}
 use Rattle.orders.specs.declared.OrderAnswer.{OrderAnswer}
 use Rattle.orders.specs.Orders.{difference, sign, orderAt, order, orderRefusal, orderAnswer, isSecond, lesserText}

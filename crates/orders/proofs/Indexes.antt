@@ -11,7 +11,7 @@ use lib.Seq.{getD-take, getD-drop}
 use borrow.Author.Tests.{lt-ltb, le-ltb, eqb-true, eqb-false, eq-eqb, ne-eqb}
 use Rattle.bits.specs.Bits.{leastBelow}
 use Rattle.bits.proofs.Below.{by-test, by-order, least-at, least-none, least-before, least-passes}
-use Rattle.pcmpstr.specs.Operand.{count}
+use Rattle.unit.specs.Operand.{count}
 use Rattle.blocks.specs.Blocks.{compareIndex, eachNegated}
 use Rattle.blocks.proofs.Compares.{part-size, eachBit, each-is}
 use Rattle.orders.specs.Orders.{difference}

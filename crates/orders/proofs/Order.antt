@@ -13,7 +13,7 @@ use lib.Signed.{ltZ, leZ, mag}
 use borrow.Author.Tests.{lt-ltb, le-ltb, ltb-true, ltb-false, eq-eqb, ne-eqb, eqb-true, eqb-false}
 use Rattle.bits.specs.Bits.{leastBelow}
 use Rattle.bits.proofs.Below.{by-test, by-order}
-use Rattle.pcmpstr.specs.Operand.{bitsOf, valueOf}
+use Rattle.unit.specs.Operand.{bitsOf, valueOf}
 use Rattle.orders.specs.Orders.{difference, sign, orderAt, order, IsOrder}
 
 -- ---- numbers

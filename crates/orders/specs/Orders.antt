@@ -9,7 +9,7 @@ use lib.ListN.{length, getD}
 use lib.IntN.{ℤ, pos, negsuc, negℤ}
 use lib.Signed.{ltZ, leZ}
 use Rattle.bits.specs.Bits.{leastBelow}
-use Rattle.pcmpstr.specs.Operand.{bitsOf, valueOf}
+use Rattle.unit.specs.Operand.{bitsOf, valueOf}
 use Rattle.orders.specs.declared.OrderAnswer.{OrderAnswer}
 use Rattle.blocks.specs.Blocks.{longestText}
 

@@ -5,19 +5,7 @@ ghost use mathlib.Core.Bool.{cond, false};
 ghost use Prim.Native.Nat.{_≤_};
 ghost use lib.ListN.{length};
 ghost use Rattle.blocks.specs.Blocks.{longestText};
-ghost use Rattle.pcmpstr.specs.Operand.{valueOf};
 ghost use Rattle.orders.specs.Orders.{difference, isSecond, lesserText, order, orderAnswer, orderRefusal};
-
-// The number that a byte stands for, in two's complement where signed.
-fn value(signed: bool, x: u8) -> i16
-    ensures { λ r. ⌜ r ≡ valueOf false signed x ⌝ }
-{
-    if signed {
-        if x < 128 { x as i16 } else { (x as i16) - 256 }
-    } else {
-        x as i16
-    }
-}
 
 // The first place where two texts differ, or the end of the shorter. Equal stretches go by in
 // blocks.
@@ -25,10 +13,10 @@ fn difference(first: &[u8], second: &[u8]) -> usize
     requires { ⌜ (length (now first) ≤ longestText) × (length (now second) ≤ longestText) ⌝ }
     ensures { λ r. ⌜ r ≡ difference (now (first .entry)) (now (second .entry)) ⌝ }
 {
-    let n = blocks::lesser(first.len(), second.len());
+    let n = bits::min(first.len(), second.len());
     let mut i = 0;
     while i < n {
-        let e = blocks::lesser(i + 16, n);
+        let e = bits::min(i + 16, n);
         let k = blocks::bytes_differ_at(&first[i..e], &second[i..e]) as usize;
         if k < 16 {
             return i + k;
@@ -44,10 +32,10 @@ fn order(first: &[u8], second: &[u8], signed: bool) -> i32
     ensures { λ r. ⌜ r ≡ order false signed (now (first .entry)) (now (second .entry)) ⌝ }
 {
     let k = difference(first, second);
-    if k < blocks::lesser(first.len(), second.len()) {
+    if k < bits::min(first.len(), second.len()) {
         return crate::order_of_values(
-            value(signed, first[k]) as i32,
-            value(signed, second[k]) as i32,
+            modes::bytes::value(signed, first[k]) as i32,
+            modes::bytes::value(signed, second[k]) as i32,
         );
     }
     crate::order_of_lengths(first.len(), second.len())

@@ -5,23 +5,7 @@ ghost use mathlib.Core.Bool.{cond, true};
 ghost use Prim.Native.Nat.{_≤_};
 ghost use lib.ListN.{length};
 ghost use Rattle.blocks.specs.Blocks.{longestText};
-ghost use Rattle.pcmpstr.specs.Operand.{valueOf};
 ghost use Rattle.orders.specs.Orders.{difference, isSecond, lesserText, order, orderAnswer, orderRefusal};
-
-// The number that a word stands for, in two's complement where signed.
-fn value(signed: bool, x: u16) -> i32
-    ensures { λ r. ⌜ r ≡ valueOf true signed x ⌝ }
-{
-    if signed {
-        if x < 32768 {
-            x as i32
-        } else {
-            (x as i32) - 65536
-        }
-    } else {
-        x as i32
-    }
-}
 
 // The first place where two texts differ, or the end of the shorter. Equal stretches go by in
 // blocks.
@@ -29,10 +13,10 @@ fn difference(first: &[u16], second: &[u16]) -> usize
     requires { ⌜ (length (now first) ≤ longestText) × (length (now second) ≤ longestText) ⌝ }
     ensures { λ r. ⌜ r ≡ difference (now (first .entry)) (now (second .entry)) ⌝ }
 {
-    let n = blocks::lesser(first.len(), second.len());
+    let n = bits::min(first.len(), second.len());
     let mut i = 0;
     while i < n {
-        let e = blocks::lesser(i + 8, n);
+        let e = bits::min(i + 8, n);
         let k = blocks::words_differ_at(&first[i..e], &second[i..e]) as usize;
         if k < 8 {
             return i + k;
@@ -48,8 +32,11 @@ fn order(first: &[u16], second: &[u16], signed: bool) -> i32
     ensures { λ r. ⌜ r ≡ order true signed (now (first .entry)) (now (second .entry)) ⌝ }
 {
     let k = difference(first, second);
-    if k < blocks::lesser(first.len(), second.len()) {
-        return crate::order_of_values(value(signed, first[k]), value(signed, second[k]));
+    if k < bits::min(first.len(), second.len()) {
+        return crate::order_of_values(
+            modes::words::value(signed, first[k]),
+            modes::words::value(signed, second[k]),
+        );
     }
     crate::order_of_lengths(first.len(), second.len())
 }

@@ -8,11 +8,11 @@ use Rattle.bits.specs.Bits.{leastBelow, numberOf, tabulate}
 use Rattle.blocks.specs.Blocks.{operandOf, compareIndex}
 use Rattle.decimal.specs.Decimal.{digits, digitsWithin, column}
 use Rattle.decimal.specs.Specimens.{all, same}
-use Rattle.pcmpstr.specs.Control.{controlOf}
-use Rattle.pcmpstr.specs.Operand.{explicitLength, wordsOf}
-use Rattle.pcmpstr.specs.Compare.{boolRes, intRes1, intRes2}
-use Rattle.pcmpstr.specs.Output.{indexOf, flagsOf}
-use Rattle.pcmpstr.specs.Calls.{PCMPESTRI}
+use Rattle.unit.specs.Control.{controlOf}
+use Rattle.unit.specs.Operand.{explicitLength, wordsOf}
+use Rattle.unit.specs.Compare.{boolRes, intRes1, intRes2}
+use Rattle.unit.specs.Output.{indexOf, flagsOf}
+use Rattle.unit.specs.Calls.{PCMPESTRI}
 use Rattle.search.specs.Positions.{positions}
 use Rattle.search.specs.Walk.{later, walk, countFrom, walkCount}
 use Rattle.report.specs.Report.{feedAt, refusalOf, numberLine, matchLines, totalsLine, listing, reportOf}

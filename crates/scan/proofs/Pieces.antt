@@ -11,8 +11,8 @@ use borrow.Author.Count.{below-more}
 use Rattle.bits.proofs.Below.{least-at, least-none}
 use Rattle.blocks.specs.Blocks.{compareIndex, eachNegated, operandOf}
 use Rattle.blocks.proofs.Compares.{compare-called, part-size}
-use Rattle.pcmpstr.specs.Operand.{count}
-use Rattle.pcmpstr.specs.Calls.{PCMPESTRI}
+use Rattle.unit.specs.Operand.{count}
+use Rattle.unit.specs.Calls.{PCMPESTRI}
 use Rattle.scan.specs.Scan.{common, pieceCount, piece, piecesDiffer, agreeing}
 
 -- ---- how many pieces there are

@@ -17,13 +17,14 @@ use Rattle.bits.proofs.Below.{by-order, by-test, or-true, least-at, least-befor
 use Rattle.bits.proofs.Lists.{getD-tabulate}
 use Rattle.blocks.specs.Blocks.{operandOf}
 use Rattle.blocks.proofs.Compares.{element-is}
-use Rattle.pcmpstr.specs.declared.Aggregation.the-variants.{EqualOrdered}
-use Rattle.pcmpstr.specs.Control.{controlOf}
-use Rattle.pcmpstr.specs.Operand.{count, elements, explicitLength, wordAt, wordsOf}
-use Rattle.pcmpstr.specs.Compare.{override, boolRes, intRes1, intRes2}
-use Rattle.pcmpstr.specs.Output.{indexOf}
-use Rattle.pcmpstr.specs.Calls.{PCMPESTRI}
-use Rattle.pcmpstr.specs.Parts.{follows, orderedOf}
+use Rattle.unit.proofs.Unit.{count-most}
+use Rattle.unit.specs.declared.Aggregation.the-variants.{EqualOrdered}
+use Rattle.unit.specs.Control.{controlOf}
+use Rattle.unit.specs.Operand.{count, elements, explicitLength, wordAt, wordsOf}
+use Rattle.unit.specs.Compare.{override, boolRes, intRes1, intRes2}
+use Rattle.unit.specs.Output.{indexOf}
+use Rattle.unit.specs.Calls.{PCMPESTRI}
+use Rattle.unit.specs.Parts.{follows, orderedOf}
 use Rattle.scan.specs.Scan.{wholeBlocks, indexIn, scanned, firstFound, scanOf}
 use Rattle.scan.specs.Letters.{ahead, unaskedIn, standsAt, startsAt, Passed}
 
@@ -108,10 +109,6 @@ compared-at words operand1 l part i p e k o h f at g =
     h ∙ (λ t. PCMPESTRI operand1 (pos l) (block t) (pos (count words)) (0x0C + cond words 1 0) .index)
 
 -- ---- the bits of a compare
-
-count-most : (words : Bool) → count words ≤ 16
-count-most true = omega arith
-count-most false = omega arith
 
 count-some : (words : Bool) → 0 < count words
 count-some true = omega arith

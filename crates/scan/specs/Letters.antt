@@ -7,7 +7,7 @@ use mathlib.Core.Bool.{Bool, false, _&&_, _||_}
 use mathlib.Core.List.{List}
 use lib.Dec.{eqb, leb}
 use lib.ListN.{getD, length}
-use Rattle.pcmpstr.specs.Operand.{count}
+use Rattle.unit.specs.Operand.{count}
 use Rattle.scan.specs.Scan.{indexIn, wholeBlocks}
 
 -- How far past a block its letters may stand, and a block with these elements.

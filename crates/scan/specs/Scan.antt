@@ -10,8 +10,8 @@ use lib.ListN.{drop, length, take}
 use lib.IntN.{pos}
 use Rattle.bits.specs.Bits.{leastBelow}
 use Rattle.blocks.specs.Blocks.{compareIndex, eachNegated, operandOf}
-use Rattle.pcmpstr.specs.Operand.{count}
-use Rattle.pcmpstr.specs.Calls.{PCMPESTRI}
+use Rattle.unit.specs.Operand.{count}
+use Rattle.unit.specs.Calls.{PCMPESTRI}
 use Rattle.scan.specs.declared.Scanned.{Scanned}
 
 -- ---- the scan

@@ -45,7 +45,7 @@ fn pass(operand1: &[u8; 16], l: usize, part: &[u8], from: usize) -> usize
 {
     let rows = unasked(16, l);
     let n = part.len();
-    let tested = (n - blocks::lesser(n, AHEAD)) / 16;
+    let tested = (n - bits::min(n, AHEAD)) / 16;
     let mut i = from;
     while i < tested {
         let p = i * 16;
@@ -109,7 +109,7 @@ pub fn scan(operand1: [u8; 16], l: usize, part: &[u8]) -> Scanned
 pub fn agree(x: &[u8], y: &[u8]) -> usize
     ensures { λ r. ⌜ r ≡ agreeing false (now (x .entry)) (now (y .entry)) ⌝ }
 {
-    let n = blocks::lesser(x.len(), y.len());
+    let n = bits::min(x.len(), y.len());
     let whole = n / 16;
     let mut i = 0;
     while i < whole {

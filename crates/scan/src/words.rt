@@ -7,7 +7,7 @@ ghost use mathlib.Core.Path.{_≡_};
 ghost use mathlib.Core.Bool.{false, true};
 ghost use Prim.Native.Nat.{ℕ, _+_, _*_, _≤_, _<_};
 ghost use lib.ListN.{length};
-ghost use Rattle.pcmpstr.specs.Operand.{wordsOf};
+ghost use Rattle.unit.specs.Operand.{wordsOf};
 ghost use Rattle.scan.specs.Letters.{Passed, Reached, reach, standsAt, startsAt};
 ghost use Rattle.scan.specs.Scan.{agreeing, scanOf};
 
@@ -57,7 +57,7 @@ fn pass(operand1: &[u8; 16], l: usize, part: &[u16], from: usize) -> usize
 {
     let rows = unasked(8, l);
     let n = part.len();
-    let tested = (n - blocks::lesser(n, AHEAD)) / 8;
+    let tested = (n - bits::min(n, AHEAD)) / 8;
     let mut i = from;
     while i < tested {
         let p = i * 8;
@@ -107,7 +107,7 @@ pub fn scan(operand1: [u8; 16], l: usize, part: &[u16]) -> Scanned
 pub fn agree(x: &[u16], y: &[u16]) -> usize
     ensures { λ r. ⌜ r ≡ agreeing true (now (x .entry)) (now (y .entry)) ⌝ }
 {
-    let n = blocks::lesser(x.len(), y.len());
+    let n = bits::min(x.len(), y.len());
     let whole = n / 8;
     let mut i = 0;
     while i < whole {

@@ -11,13 +11,13 @@ use Rattle.bits.specs.Bits.{leastBelow}
 use Rattle.bits.proofs.Below.{least-within, by-test, least-before, least-passes, all-each, each-all}
 use Rattle.blocks.specs.Blocks.{compareIndex, eachNegated}
 use Rattle.blocks.proofs.Compares.{parts-index, eachBit, each-is}
-use Rattle.pcmpstr.specs.declared.Aggregation.the-variants.{EqualOrdered}
-use Rattle.pcmpstr.specs.Control.{controlOf}
-use Rattle.pcmpstr.specs.Operand.{count}
-use Rattle.pcmpstr.specs.Compare.{override, boolRes, intRes1, intRes2}
-use Rattle.pcmpstr.specs.Output.{indexOf}
-use Rattle.pcmpstr.specs.Calls.{PCMPESTRI}
-use Rattle.pcmpstr.specs.Parts.{follows, orderedOf}
+use Rattle.unit.specs.declared.Aggregation.the-variants.{EqualOrdered}
+use Rattle.unit.specs.Control.{controlOf}
+use Rattle.unit.specs.Operand.{count}
+use Rattle.unit.specs.Compare.{override, boolRes, intRes1, intRes2}
+use Rattle.unit.specs.Output.{indexOf}
+use Rattle.unit.specs.Calls.{PCMPESTRI}
+use Rattle.unit.specs.Parts.{follows, orderedOf}
 use Rattle.search.specs.Walk.{ordered}
 
 -- ---- the two compares, by their bits

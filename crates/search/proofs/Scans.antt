@@ -13,8 +13,8 @@ use native.Mathlib.Numerals.{add-one}
 use Rattle.bits.proofs.Below.{by-order}
 use Rattle.blocks.specs.Blocks.{longestText, operandOf}
 use Rattle.blocks.proofs.Compares.{part-size}
-use Rattle.pcmpstr.specs.Operand.{count}
-use Rattle.pcmpstr.specs.Calls.{PCMPESTRI}
+use Rattle.unit.specs.Operand.{count}
+use Rattle.unit.specs.Calls.{PCMPESTRI}
 use Rattle.scan.specs.declared.Scanned.{Scanned}
 use Rattle.scan.specs.Scan.{indexIn, scanOf}
 use Rattle.scan.proofs.Scans.{scan-index, scan-none, scan-passed}

@@ -11,8 +11,8 @@ use native.Mathlib.Omega.{arith}
 use native.Mathlib.Nat.{add-zero}
 use borrow.Author.Tests.{lt-ltb, le-ltb, ne-eqb}
 use Rattle.bits.proofs.Below.{by-order}
-use Rattle.pcmpstr.specs.Operand.{count}
-use Rattle.pcmpstr.specs.Calls.{PCMPESTRI}
+use Rattle.unit.specs.Operand.{count}
+use Rattle.unit.specs.Calls.{PCMPESTRI}
 use Rattle.blocks.specs.Blocks.{longestText, operandOf}
 use Rattle.search.specs.declared.Cursor.{Cursor}
 use Rattle.search.specs.declared.Stepped.{Stepped}

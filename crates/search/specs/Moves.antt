@@ -7,7 +7,7 @@ use mathlib.Core.List.{List}
 use lib.Dec.{ltb}
 use lib.ListN.{drop, length, take}
 use Rattle.blocks.specs.Blocks.{longestText, operandOf}
-use Rattle.pcmpstr.specs.Operand.{count}
+use Rattle.unit.specs.Operand.{count}
 use Rattle.search.specs.declared.Cursor.{Cursor}
 use Rattle.search.specs.declared.Next.{Next}
 use Rattle.search.specs.declared.Next.the-variants.{Match, Absent}

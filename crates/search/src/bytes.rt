@@ -33,7 +33,7 @@ impl Cursor {
         let e = text.len() - (needle.len() - l);
         if e - p < 16 {
             let k = pcmpstr::pcmpestri_0c(*first, l, padded_bytes(&text[p..e]), e - p);
-            let by = blocks::lesser(k as usize, e - p);
+            let by = bits::min(k as usize, e - p);
             return self.stepped(k == 0, by as u64, self.compares + 1);
         }
         let s = scan::bytes::scan(*first, l, &text[p..e]);

@@ -33,7 +33,7 @@ impl Cursor {
         let e = text.len() - (needle.len() - l);
         if e - p < 8 {
             let k = pcmpstr::pcmpestri_0d(*first, l, padded_words(&text[p..e]), e - p);
-            let by = blocks::lesser(k as usize, e - p);
+            let by = bits::min(k as usize, e - p);
             return self.stepped(k == 0, by as u64, self.compares + 1);
         }
         let s = scan::words::scan(*first, l, &text[p..e]);

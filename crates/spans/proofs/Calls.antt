@@ -9,7 +9,7 @@ use lib.Dec.{eqb, ltb}
 use lib.ListN.{length, take}
 use borrow.Author.Tests.{ltb-false, eq-eqb, ne-eqb}
 use Rattle.bits.proofs.Below.{by-test}
-use Rattle.pcmpstr.specs.Operand.{count, valueOf}
+use Rattle.unit.specs.Operand.{count, valueOf}
 use Rattle.blocks.specs.Blocks.{longestText}
 use Rattle.spans.specs.Spans.{inSet, inRanges, spanLength, setRefusal, boundsRefusal, setSpan, rangeSpan}
 

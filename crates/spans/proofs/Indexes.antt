@@ -13,15 +13,15 @@ use lib.Seq.{getD-take, getD-drop}
 use borrow.Author.Tests.{lt-ltb, le-ltb}
 use Rattle.bits.specs.Bits.{leastBelow}
 use Rattle.bits.proofs.Below.{by-order, least-at, least-none, least-before, least-passes}
-use Rattle.pcmpstr.specs.declared.Control.{Control}
-use Rattle.pcmpstr.specs.declared.Aggregation.the-variants.{EqualAny, Ranges}
-use Rattle.pcmpstr.specs.declared.IndexAnswer.{IndexAnswer}
-use Rattle.pcmpstr.specs.Control.{controlOf}
-use Rattle.pcmpstr.specs.Operand.{count}
-use Rattle.pcmpstr.specs.Compare.{operands, intRes1, intRes2}
-use Rattle.pcmpstr.specs.Output.{indexOf}
-use Rattle.pcmpstr.specs.Calls.{PCMPESTRI}
-use Rattle.pcmpstr.proofs.Unit.{any-bit, ranges-bit}
+use Rattle.unit.specs.declared.Control.{Control}
+use Rattle.unit.specs.declared.Aggregation.the-variants.{EqualAny, Ranges}
+use Rattle.unit.specs.declared.IndexAnswer.{IndexAnswer}
+use Rattle.unit.specs.Control.{controlOf}
+use Rattle.unit.specs.Operand.{count}
+use Rattle.unit.specs.Compare.{operands, intRes1, intRes2}
+use Rattle.unit.specs.Output.{indexOf}
+use Rattle.unit.specs.Calls.{PCMPESTRI}
+use Rattle.unit.proofs.Unit.{any-bit, ranges-bit}
 use Rattle.blocks.specs.Blocks.{operandOf, compareIndex}
 use Rattle.blocks.proofs.Compares.{part-size, parts-index}
 use Rattle.spans.specs.Spans.{spanLength}

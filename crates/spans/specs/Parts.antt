@@ -4,8 +4,8 @@ use mathlib.Core.Bool.{Bool, true, false}
 use mathlib.Core.List.{List}
 use lib.ListN.{length, take, drop}
 use lib.IntN.{ℤ, pos}
-use Rattle.pcmpstr.specs.Operand.{count, valueOf}
-use Rattle.pcmpstr.specs.Calls.{PCMPESTRI}
+use Rattle.unit.specs.Operand.{count, valueOf}
+use Rattle.unit.specs.Calls.{PCMPESTRI}
 use Rattle.blocks.specs.Blocks.{operandOf}
 use Rattle.spans.specs.Spans.{inSet, inRanges}
 

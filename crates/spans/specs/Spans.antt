@@ -9,7 +9,7 @@ use lib.ListN.{length, getD, take}
 use lib.IntN.{ℤ}
 use lib.Signed.{leZ}
 use Rattle.bits.specs.Bits.{anyBelow, leastBelow}
-use Rattle.pcmpstr.specs.Operand.{count, valueOf}
+use Rattle.unit.specs.Operand.{count, valueOf}
 use Rattle.blocks.specs.Blocks.{longestText}
 
 -- x is an element of the set

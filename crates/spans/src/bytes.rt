@@ -13,7 +13,7 @@ fn front(list: [u8; 16], l: i32, text: &[u8], i: usize, control: u8) -> usize
     requires { ⌜ (i ≤ length (now text)) × (length (now text) ≤ longestText) ⌝ }
     ensures { λ r. ⌜ r ≡ frontIndex false list l (now (text .entry)) i control ⌝ }
 {
-    let e = blocks::lesser(i + 16, text.len());
+    let e = bits::min(i + 16, text.len());
     let block = blocks::padded_bytes(&text[i..e]);
     let answer = pcmpstr::pcmpestri(list, l, block, (e - i) as i32, control);
     answer.index as usize

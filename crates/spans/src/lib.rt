@@ -10,8 +10,8 @@
 pub mod bytes;
 pub mod words;
 
+use stages::operand;
 ghost use mathlib.Core.Path.{_≡_};
-ghost use Rattle.pcmpstr.specs.Operand.{count};
 ghost use Rattle.spans.specs.Spans.{setRefusal, boundsRefusal};
 ghost use Rattle.spans.specs.Parts.{spanControl};
 
@@ -21,13 +21,6 @@ pub const LIST_REFUSED: u32 = 4;
 
 pub const ODD_REFUSED: u32 = 5;
 
-// How many elements an operand holds.
-fn count_of(words: bool) -> usize
-    ensures { λ r. ⌜ r ≡ count words ⌝ }
-{
-    if words { 8 } else { 16 }
-}
-
 // The number that refuses a text of n elements with a set of m, or 0.
 fn set_refusal(words: bool, n: usize, m: usize) -> u32
     ensures { λ r. ⌜ r ≡ setRefusal words n m ⌝ }
@@ -35,7 +28,7 @@ fn set_refusal(words: bool, n: usize, m: usize) -> u32
     if n > blocks::LONGEST_TEXT {
         return blocks::TEXT_REFUSED;
     }
-    if m > count_of(words) {
+    if m > operand::count_of(words) {
         return LIST_REFUSED;
     }
     0

@@ -13,7 +13,7 @@ fn front(list: [u8; 16], l: i32, text: &[u16], i: usize, control: u8) -> usize
     requires { ⌜ (i ≤ length (now text)) × (length (now text) ≤ longestText) ⌝ }
     ensures { λ r. ⌜ r ≡ frontIndex true list l (now (text .entry)) i control ⌝ }
 {
-    let e = blocks::lesser(i + 8, text.len());
+    let e = bits::min(i + 8, text.len());
     let block = blocks::padded_words(&text[i..e]);
     let answer = pcmpstr::pcmpestri(list, l, block, (e - i) as i32, control);
     answer.index as usize

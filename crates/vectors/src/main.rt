@@ -83,7 +83,7 @@ fn fold_flag(digest: u64, flag: bool) -> u64 {
 }
 
 // The digest with the six flags in it.
-fn fold_flags(digest: u64, flags: pcmpstr::Flags) -> u64 {
+fn fold_flags(digest: u64, flags: unit::Flags) -> u64 {
     let c = fold_flag(digest, flags.carry);
     let z = fold_flag(c, flags.zero);
     let s = fold_flag(z, flags.sign);
@@ -93,14 +93,14 @@ fn fold_flags(digest: u64, flags: pcmpstr::Flags) -> u64 {
 }
 
 // The digest with an index and its flags in it.
-fn fold_index(digest: u64, answer: pcmpstr::IndexAnswer) -> u64 {
+fn fold_index(digest: u64, answer: unit::IndexAnswer) -> u64 {
     let flags = answer.flags;
     let refused = fold(digest, answer.refusal as u64);
     fold_flags(fold(refused, answer.index as u64), flags)
 }
 
 // The digest with a mask and its flags in it.
-fn fold_mask(digest: u64, answer: pcmpstr::MaskAnswer) -> u64 {
+fn fold_mask(digest: u64, answer: unit::MaskAnswer) -> u64 {
     let flags = answer.flags;
     let mask = answer.mask;
     let mut folded = fold(digest, answer.refusal as u64);

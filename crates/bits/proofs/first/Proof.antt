@@ -1,4 +1,5 @@
--- `bits::first` meets its contract: 2 ^ n - 1 is the number of the bits below n, and 65535 that of all sixteen. Assumes nothing.
+-- `bits::first` meets its contract: 2 ^ n - 1 is the number of the bits below n, and 65535 that of
+-- all sixteen. Assumes nothing.
 use borrow.Author.Needs.{needs}
 use native.Mathlib.Omega.{arith}
 use mathlib.Core.Path.{sym, _∙_}

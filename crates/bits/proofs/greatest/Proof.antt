@@ -1,5 +1,5 @@
--- `bits::greatest` meets its contract. A number that is not 0 has at most 31 leading zeros, so the difference is no less than 0.
--- Assumes nothing.
+-- `bits::greatest` meets its contract. A number that is not 0 has at most 31 leading zeros, so the
+-- difference is no less than 0. Assumes nothing.
 use native.Mathlib.Omega.{arith}
 use borrow.Author.Tests.{eq-eqb, ne-eqb}
 use lib.Count.{leading-top}

@@ -1,4 +1,5 @@
--- `bits::least` meets its contract, which says what it does: no set bit, or the count of zeros below the least one. Assumes nothing.
+-- `bits::least` meets its contract, which says what it does: no set bit, or the count of zeros
+-- below the least one. Assumes nothing.
 use borrow.Author.Tests.{eq-eqb, ne-eqb}
 use Rattle.bits.proofs.least.Statement.{statement}
 use Rattle.bits.proofs.least.Tie as tie

@@ -18,8 +18,8 @@ Inv-loop bytes₀ part n i₀ bytes i = (i ≤ n) × (bytes ≡ stores (operandB
 abbrev μ-loop : tie.MeasureT-loop
 μ-loop bytes₀ part n i₀ bytes i = n - i
 
-lesser-requires : tie.Need-lesser-requires Inv-loop μ-loop
-lesser-requires c κs = search needs
+min-requires : tie.Need-min-requires Inv-loop μ-loop
+min-requires c κs = search needs
 
 loop-holds : tie.Need-loop-holds Inv-loop μ-loop
 loop-holds c = (omega arith, refl)
@@ -50,8 +50,8 @@ returns : tie.Need-returns Inv-loop μ-loop
 returns c =
     let l = c .before in
     let a = l .before .before .before .args in
-    let all : l .loop .i ≡ l .before .lesser .result = omega arith in
-    l .loop .inv .1 ∙ ap (λ (k : ℕ). stores (operandByte false (a .part .now)) k (a .bytes .now)) (all ∙ l .before .lesser .ensures)
+    let all : l .loop .i ≡ l .before .min .result = omega arith in
+    l .loop .inv .1 ∙ ap (λ (k : ℕ). stores (operandByte false (a .part .now)) k (a .bytes .now)) (all ∙ l .before .min .ensures)
 
 pub fill-bytes-spec : {M : Type 1} → statement M
 fill-bytes-spec =
@@ -59,7 +59,7 @@ fill-bytes-spec =
     (tie.spec
     Inv-loop
     μ-loop
-    lesser-requires
+    min-requires
     loop-holds
     shared-slice-read-bytes
     element-write-bytes

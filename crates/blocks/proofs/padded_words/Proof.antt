@@ -16,8 +16,8 @@ Inv-loop part n bytes₀ i₀ bytes i = (i ≤ n) × (bytes ≡ tabulate 16 (upT
 abbrev μ-loop : tie.MeasureT-loop
 μ-loop part n bytes₀ i₀ bytes i = n - i
 
-lesser-requires : tie.Need-lesser-requires Inv-loop μ-loop
-lesser-requires c κs = search needs
+min-requires : tie.Need-min-requires Inv-loop μ-loop
+min-requires c κs = search needs
 
 loop-holds : tie.Need-loop-holds Inv-loop μ-loop
 unfolding tabulate
@@ -84,7 +84,7 @@ padded-words-spec =
     (tie.spec
     Inv-loop
     μ-loop
-    lesser-requires
+    min-requires
     loop-holds
     mul-at
     mul-low

@@ -1,10 +1,10 @@
--- `pcmpstr::pcmpestri` meets its contract, the definition of PCMPESTRI: refused above 127, else what the parts say of the operands, put together.
--- Assumes nothing.
+-- `pcmpstr::pcmpestri` meets its contract, the definition of PCMPESTRI: refused above 127, else
+-- what the parts say of the operands, put together. Assumes nothing.
 use mathlib.Core.Path.{refl, _∙_}
-use Rattle.pcmpstr.specs.Control.{controlOf}
-use Rattle.pcmpstr.specs.Output.{indexAnswer, refusedIndex}
-use Rattle.pcmpstr.specs.Calls.{explicit, PCMPESTRI}
-use Rattle.pcmpstr.proofs.Unit.{refused, index-called}
+use Rattle.unit.specs.Control.{controlOf}
+use Rattle.unit.specs.Output.{indexAnswer, refusedIndex}
+use Rattle.unit.specs.Calls.{explicit, PCMPESTRI}
+use Rattle.unit.proofs.Unit.{refused, index-called}
 use mir.Syntax.{w32}
 use mir.ValLaws.{toZ-ofZ}
 use borrow.Author.Needs.{needs}

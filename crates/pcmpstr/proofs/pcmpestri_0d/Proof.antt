@@ -1,10 +1,10 @@
--- `pcmpstr::pcmpestri_0d` meets its contract: at that control IntRes2 is the number of the mode, and the index its least bit.
--- Assumes nothing.
+-- `pcmpstr::pcmpestri_0d` meets its contract: at that control IntRes2 is the number of the mode,
+-- and the index its least bit. Assumes nothing.
 use mathlib.Core.Path.{_∙_}
 use mathlib.Core.Bool.{true}
 use lib.IntN.{pos}
 use native.Mathlib.Omega.{arith}
-use Rattle.pcmpstr.proofs.Unit.{cut-explicit, ordered-index}
+use Rattle.unit.proofs.Unit.{cut-explicit, ordered-index}
 use borrow.Author.Needs.{needs}
 use Rattle.pcmpstr.proofs.pcmpestri_0d.Statement.{statement}
 use Rattle.pcmpstr.proofs.pcmpestri_0d.Tie as tie
@@ -15,15 +15,15 @@ words-of-requires c κs = search needs
 words-of-requires-2 : tie.Need-words-of-requires-2
 words-of-requires-2 c κs = search needs
 
-cut-requires : tie.Need-cut-requires
-cut-requires c κs = search needs
+min-requires : tie.Need-min-requires
+min-requires c κs = search needs
 
-cut-requires-2 : tie.Need-cut-requires-2
-cut-requires-2 c κs = search needs
+min-requires-2 : tie.Need-min-requires-2
+min-requires-2 c κs = search needs
 
 equal-ordered-requires : tie.Need-equal-ordered-requires
 equal-ordered-requires c κs =
-    (omega (arith, c .before .before .before .cut .ensures), omega (arith, c .before .before .cut2 .ensures))
+    (omega (arith, c .before .before .before .min .ensures), omega (arith, c .before .before .min2 .ensures))
 
 least-requires : tie.Need-least-requires
 least-requires c κs = search needs
@@ -31,8 +31,8 @@ least-requires c κs = search needs
 returns : tie.Need-returns
 returns c =
     let s = c .before .before .before .before .before .before .before .before in
-    let f = c .before .before .before .before .before .cut in
-    let g = c .before .before .before .before .cut2 in
+    let f = c .before .before .before .before .before .min in
+    let g = c .before .before .before .before .min2 in
     let l₁ = cut-explicit 8 (s .args .length1) (f .result) (f .ensures) in
     let l₂ = cut-explicit 8 (s .args .length2) (g .result) (g .ensures) in
     c .least .ensures
@@ -44,8 +44,8 @@ pcmpestri-0d-spec =
     (tie.spec
     words-of-requires
     words-of-requires-2
-    cut-requires
-    cut-requires-2
+    min-requires
+    min-requires-2
     equal-ordered-requires
     least-requires
     returns)

@@ -1,25 +1,25 @@
--- `pcmpstr::pcmpestri_18` meets its contract: at that control IntRes2 is the number of `differ`, and the index its least bit.
--- Assumes nothing.
+-- `pcmpstr::pcmpestri_18` meets its contract: at that control IntRes2 is the number of `differ`,
+-- and the index its least bit. Assumes nothing.
 use mathlib.Core.Path.{_∙_}
 use mathlib.Core.Bool.{false, not}
 use lib.IntN.{pos}
 use native.Mathlib.Omega.{arith}
 use Rattle.bits.proofs.Numbers.{least-read}
-use Rattle.pcmpstr.specs.Parts.{eachOf}
-use Rattle.pcmpstr.proofs.Unit.{cut-explicit, differ-index}
+use Rattle.unit.specs.Parts.{eachOf}
+use Rattle.unit.proofs.Unit.{cut-explicit, differ-index}
 use borrow.Author.Needs.{needs}
 use Rattle.pcmpstr.proofs.pcmpestri_18.Statement.{statement}
 use Rattle.pcmpstr.proofs.pcmpestri_18.Tie as tie
 
-cut-requires : tie.Need-cut-requires
-cut-requires c κs = search needs
+min-requires : tie.Need-min-requires
+min-requires c κs = search needs
 
-cut-requires-2 : tie.Need-cut-requires-2
-cut-requires-2 c κs = search needs
+min-requires-2 : tie.Need-min-requires-2
+min-requires-2 c κs = search needs
 
 differ-requires : tie.Need-differ-requires
 differ-requires c κs =
-    (omega (arith, c .before .before .before .cut .ensures), omega (arith, c .before .before .cut2 .ensures))
+    (omega (arith, c .before .before .before .min .ensures, c .before .before .min2 .ensures), omega (arith, c .before .before .before .min .ensures, c .before .before .min2 .ensures))
 
 least-requires : tie.Need-least-requires
 least-requires c κs = search needs
@@ -27,8 +27,8 @@ least-requires c κs = search needs
 returns : tie.Need-returns
 returns c =
     let s = c .before .before .before .before .before .before in
-    let f = c .before .before .before .before .before .cut in
-    let g = c .before .before .before .before .cut2 in
+    let f = c .before .before .before .before .before .min in
+    let g = c .before .before .before .before .min2 in
     let l₁ = cut-explicit 16 (s .args .length1) (f .result) (f .ensures) in
     let l₂ = cut-explicit 16 (s .args .length2) (g .result) (g .ensures) in
     let d = c .before .differ in
@@ -39,8 +39,8 @@ pub pcmpestri-18-spec : {M : Type 1} → statement M
 pcmpestri-18-spec =
     tie.close
     (tie.spec
-    cut-requires
-    cut-requires-2
+    min-requires
+    min-requires-2
     differ-requires
     least-requires
     returns)

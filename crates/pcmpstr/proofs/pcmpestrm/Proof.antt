@@ -1,10 +1,10 @@
--- `pcmpstr::pcmpestrm` meets its contract, the definition of PCMPESTRM: refused above 127, else what the parts say of the operands, put together.
--- Assumes nothing.
+-- `pcmpstr::pcmpestrm` meets its contract, the definition of PCMPESTRM: refused above 127, else
+-- what the parts say of the operands, put together. Assumes nothing.
 use mathlib.Core.Path.{refl, _∙_}
-use Rattle.pcmpstr.specs.Control.{controlOf}
-use Rattle.pcmpstr.specs.Output.{maskAnswer, refusedMask}
-use Rattle.pcmpstr.specs.Calls.{explicit, PCMPESTRM}
-use Rattle.pcmpstr.proofs.Unit.{refused, mask-called}
+use Rattle.unit.specs.Control.{controlOf}
+use Rattle.unit.specs.Output.{maskAnswer, refusedMask}
+use Rattle.unit.specs.Calls.{explicit, PCMPESTRM}
+use Rattle.unit.proofs.Unit.{refused, mask-called}
 use mir.Syntax.{w32}
 use mir.ValLaws.{toZ-ofZ}
 use borrow.Author.Needs.{needs}

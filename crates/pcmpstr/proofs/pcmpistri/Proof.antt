@@ -1,10 +1,10 @@
--- `pcmpstr::pcmpistri` meets its contract, the definition of PCMPISTRI: refused above 127, else what the parts say of the operands, put together.
--- Assumes nothing.
+-- `pcmpstr::pcmpistri` meets its contract, the definition of PCMPISTRI: refused above 127, else
+-- what the parts say of the operands, put together. Assumes nothing.
 use mathlib.Core.Path.{refl, _∙_}
-use Rattle.pcmpstr.specs.Control.{controlOf}
-use Rattle.pcmpstr.specs.Output.{indexAnswer, refusedIndex}
-use Rattle.pcmpstr.specs.Calls.{implicit, PCMPISTRI}
-use Rattle.pcmpstr.proofs.Unit.{refused, index-called}
+use Rattle.unit.specs.Control.{controlOf}
+use Rattle.unit.specs.Output.{indexAnswer, refusedIndex}
+use Rattle.unit.specs.Calls.{implicit, PCMPISTRI}
+use Rattle.unit.proofs.Unit.{refused, index-called}
 use borrow.Author.Needs.{needs}
 use native.Mathlib.Omega.{arith}
 use Rattle.pcmpstr.proofs.pcmpistri.Statement.{statement}

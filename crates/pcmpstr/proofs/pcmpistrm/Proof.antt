@@ -1,10 +1,10 @@
--- `pcmpstr::pcmpistrm` meets its contract, the definition of PCMPISTRM: refused above 127, else what the parts say of the operands, put together.
--- Assumes nothing.
+-- `pcmpstr::pcmpistrm` meets its contract, the definition of PCMPISTRM: refused above 127, else
+-- what the parts say of the operands, put together. Assumes nothing.
 use mathlib.Core.Path.{refl, _∙_}
-use Rattle.pcmpstr.specs.Control.{controlOf}
-use Rattle.pcmpstr.specs.Output.{maskAnswer, refusedMask}
-use Rattle.pcmpstr.specs.Calls.{implicit, PCMPISTRM}
-use Rattle.pcmpstr.proofs.Unit.{refused, mask-called}
+use Rattle.unit.specs.Control.{controlOf}
+use Rattle.unit.specs.Output.{maskAnswer, refusedMask}
+use Rattle.unit.specs.Calls.{implicit, PCMPISTRM}
+use Rattle.unit.proofs.Unit.{refused, mask-called}
 use borrow.Author.Needs.{needs}
 use native.Mathlib.Omega.{arith}
 use Rattle.pcmpstr.proofs.pcmpistrm.Statement.{statement}

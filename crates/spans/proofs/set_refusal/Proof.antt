@@ -2,7 +2,7 @@
 -- Assumes nothing.
 use native.Mathlib.Omega.{arith}
 use borrow.Author.Tests.{lt-ltb, le-ltb}
-use Rattle.pcmpstr.specs.Operand.{count}
+use Rattle.unit.specs.Operand.{count}
 use Rattle.blocks.specs.Blocks.{longestText}
 use Rattle.spans.specs.Spans.{setRefusal}
 use Rattle.spans.proofs.set_refusal.Statement.{statement}

@@ -14,8 +14,8 @@ use Rattle.orders.proofs.words.order.Tie as tie
 difference-requires : tie.Need-difference-requires
 difference-requires c κs = search needs
 
-lesser-requires : tie.Need-lesser-requires
-lesser-requires c κs = tt
+min-requires : tie.Need-min-requires
+min-requires c κs = tt
 
 mul-value : tie.Need-mul-value
 mul-value c = omega arith
@@ -46,7 +46,7 @@ returns c =
     let d = at-test .before .difference in
     let a = at-test .before .before .before .before .args in
     let z = c .order-of-values in
-    by-elements true (a .signed) (a .first .now) (a .second .now) (d .result) (d .ensures) _ (omega (arith, at-test .lesser .ensures))
+    by-elements true (a .signed) (a .first .now) (a .second .now) (d .result) (d .ensures) _ (omega (arith, at-test .min .ensures))
     (toZ-ofZ w32 (z .result) (record { sfits = z .ok }) ∙ z .ensures ∙ (λ t. sign ((toZ-ofZ w32 (v .result) (record { sfits = v .ok }) ∙ v .ensures) t) ((toZ-ofZ w32 (w .result) (record { sfits = w .ok }) ∙ w .ensures) t)))
 
 order-of-lengths-requires : tie.Need-order-of-lengths-requires
@@ -57,7 +57,7 @@ returns-2 c =
     let a = c .before .before .before .before .before .before .args in
     let d = c .before .before .before .difference in
     let z = c .order-of-lengths in
-    by-lengths true (a .signed) (a .first .now) (a .second .now) (d .result) (d .ensures) _ (omega (arith, c .before .before .lesser .ensures))
+    by-lengths true (a .signed) (a .first .now) (a .second .now) (d .result) (d .ensures) _ (omega (arith, c .before .before .min .ensures))
     (toZ-ofZ w32 (z .result) (record { sfits = z .ok }) ∙ z .ensures)
 
 pub order-spec : {M : Type 1} → statement M
@@ -65,7 +65,7 @@ order-spec =
     tie.close
     (tie.spec
     difference-requires
-    lesser-requires
+    min-requires
     mul-value
     shared-slice-read-value
     value-requires

@@ -61,7 +61,7 @@ returns-2 : tie.Need-returns-2 Inv-loop μ-loop
 returns-2 c =
     let o = c .before .before in
     let a = at-entry o .args in
-    agreed-all false (a .x .now) (a .y .now) (o .loop .i) (o .loop .inv .1) (count-even false _ (o .loop .i) (c .if2 .taken ∙ o .before .lesser .ensures))
+    agreed-all false (a .x .now) (a .y .now) (o .loop .i) (o .loop .inv .1) (count-even false _ (o .loop .i) (c .if2 .taken ∙ o .before .min .ensures))
 
 returns-3 : tie.Need-returns-3 Inv-loop μ-loop
 returns-3 c =

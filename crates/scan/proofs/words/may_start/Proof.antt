@@ -5,7 +5,7 @@ use mathlib.Core.Path.{_≡_, sym, ap, _∙_}
 use mathlib.Core.Bool.{false}
 use native.Mathlib.Omega.{arith}
 use borrow.Author.Needs.{needs}
-use Rattle.pcmpstr.specs.Operand.{wordsOf}
+use Rattle.unit.specs.Operand.{wordsOf}
 use Rattle.scan.specs.Letters.{standsAt, startsAt}
 use Rattle.scan.proofs.Scans.{letter-is, place-more}
 use Rattle.scan.proofs.words.may_start.Statement.{statement}

@@ -31,7 +31,7 @@ returns c =
     let k = c .before .before .before in
     let s = k .before .before .before .before .before .before .before in
     let a = s .args in
-    let by = c .before .before .lesser .ensures in
+    let by = c .before .before .min .ensures in
     let r = c .stepped .ensures ∙ ap (λ (n : ℕ). steppedBy (a .self) (eqb (k .pcmpestri-0d .result) 0) n (a .self .compares + 1)) by in
     rw r (led-short true (a .text .now) (a .needle .now) (a .first .now) (a .l) (a .self) (s .pre) _ (k .pcmpestri-0d .result) _ refl (omega arith) (k .pcmpestri-0d .ensures) (k .before .padded-words .ensures))
 

@@ -9,29 +9,29 @@ use Rattle.spans.proofs.Indexes.{front-called}
 use Rattle.spans.proofs.bytes.front.Statement.{statement}
 use Rattle.spans.proofs.bytes.front.Tie as tie
 
-add-lesser : tie.Need-add-lesser
-add-lesser c = omega arith
+add-min : tie.Need-add-min
+add-min c = omega arith
 
-lesser-requires : tie.Need-lesser-requires
-lesser-requires c κs = tt
+min-requires : tie.Need-min-requires
+min-requires c κs = tt
 
 sub-padded-bytes : tie.Need-sub-padded-bytes
-sub-padded-bytes c = omega (arith, c .lesser .ensures)
+sub-padded-bytes c = omega (arith, c .min .ensures)
 
 part-padded-bytes-start : tie.Need-part-padded-bytes-start
-part-padded-bytes-start c = omega (arith, c .lesser .ensures)
+part-padded-bytes-start c = omega (arith, c .min .ensures)
 
 part-padded-bytes-end : tie.Need-part-padded-bytes-end
-part-padded-bytes-end c = omega (arith, c .lesser .ensures)
+part-padded-bytes-end c = omega (arith, c .min .ensures)
 
 padded-bytes-requires : tie.Need-padded-bytes-requires
 padded-bytes-requires c κs = tt
 
 sub-pcmpestri : tie.Need-sub-pcmpestri
-sub-pcmpestri c = omega (arith, c .before .before .lesser .ensures)
+sub-pcmpestri c = omega (arith, c .before .before .min .ensures)
 
 cast-pcmpestri : tie.Need-cast-pcmpestri
-cast-pcmpestri c = record { sfits = omega (arith, c .before .before .lesser .ensures) }
+cast-pcmpestri c = record { sfits = omega (arith, c .before .before .min .ensures) }
 
 pcmpestri-requires : tie.Need-pcmpestri-requires
 pcmpestri-requires c κs = tt
@@ -44,7 +44,7 @@ returns c =
     let u = c .before .pcmpestri in
     let o = c .before .before .padded-bytes in
     let at-end = c .before .before .before .before in
-    let e = at-end .lesser in
+    let e = at-end .min in
     let s = at-end .before .before in
     let a = s .args in
     front-called false (a .text .now) (a .list) (o .result) (a .i) (e .result) (a .control) (a .l) _ _ (u .result)
@@ -54,8 +54,8 @@ pub front-spec : {M : Type 1} → statement M
 front-spec =
     tie.close
     (tie.spec
-    add-lesser
-    lesser-requires
+    add-min
+    min-requires
     sub-padded-bytes
     part-padded-bytes-start
     part-padded-bytes-end

@@ -9,32 +9,32 @@ use Rattle.spans.proofs.Indexes.{front-called}
 use Rattle.spans.proofs.words.front.Statement.{statement}
 use Rattle.spans.proofs.words.front.Tie as tie
 
-add-lesser : tie.Need-add-lesser
-add-lesser c = omega arith
+add-min : tie.Need-add-min
+add-min c = omega arith
 
-lesser-requires : tie.Need-lesser-requires
-lesser-requires c κs = tt
+min-requires : tie.Need-min-requires
+min-requires c κs = tt
 
 mul-padded-words : tie.Need-mul-padded-words
 mul-padded-words c = omega arith
 
 sub-padded-words : tie.Need-sub-padded-words
-sub-padded-words c = omega (arith, c .lesser .ensures)
+sub-padded-words c = omega (arith, c .min .ensures)
 
 part-padded-words-start : tie.Need-part-padded-words-start
-part-padded-words-start c = omega (arith, c .lesser .ensures)
+part-padded-words-start c = omega (arith, c .min .ensures)
 
 part-padded-words-end : tie.Need-part-padded-words-end
-part-padded-words-end c = omega (arith, c .lesser .ensures)
+part-padded-words-end c = omega (arith, c .min .ensures)
 
 padded-words-requires : tie.Need-padded-words-requires
 padded-words-requires c κs = tt
 
 sub-pcmpestri : tie.Need-sub-pcmpestri
-sub-pcmpestri c = omega (arith, c .before .before .lesser .ensures)
+sub-pcmpestri c = omega (arith, c .before .before .min .ensures)
 
 cast-pcmpestri : tie.Need-cast-pcmpestri
-cast-pcmpestri c = record { sfits = omega (arith, c .before .before .lesser .ensures) }
+cast-pcmpestri c = record { sfits = omega (arith, c .before .before .min .ensures) }
 
 pcmpestri-requires : tie.Need-pcmpestri-requires
 pcmpestri-requires c κs = tt
@@ -47,7 +47,7 @@ returns c =
     let u = c .before .pcmpestri in
     let o = c .before .before .padded-words in
     let at-end = c .before .before .before .before in
-    let e = at-end .lesser in
+    let e = at-end .min in
     let s = at-end .before .before in
     let a = s .args in
     front-called true (a .text .now) (a .list) (o .result) (a .i) (e .result) (a .control) (a .l) _ _ (u .result)
@@ -57,8 +57,8 @@ pub front-spec : {M : Type 1} → statement M
 front-spec =
     tie.close
     (tie.spec
-    add-lesser
-    lesser-requires
+    add-min
+    min-requires
     mul-padded-words
     sub-padded-words
     part-padded-words-start

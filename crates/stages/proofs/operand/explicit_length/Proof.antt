@@ -1,0 +1,24 @@
+-- `stages::operand::explicit_length` meets its contract: b is at most 16, so what was cut to 16 is
+-- cut to b. Assumes nothing.
+use borrow.Author.Needs.{needs}
+use mir.Syntax.{w32}
+use mir.ValLaws.{toZ-ofZ}
+use native.Mathlib.Omega.{arith}
+use Rattle.unit.specs.Operand.{explicitLength}
+use Rattle.stages.proofs.operand.explicit_length.Statement.{statement}
+use Rattle.stages.proofs.operand.explicit_length.Tie as tie
+
+magnitude-requires : tie.Need-magnitude-requires
+magnitude-requires c κs = search needs
+
+min-requires : tie.Need-min-requires
+min-requires c κs = search needs
+
+returns : tie.Need-returns
+unfolding explicitLength
+returns c =
+    let s = c .before .before in
+    omega (arith, c .min .ensures, rw (toZ-ofZ w32 (s .args .length) (s .fits .length)) at (c .before .magnitude .ensures))
+
+pub explicit-length-spec : {M : Type 1} → statement M
+explicit-length-spec = tie.close (tie.spec magnitude-requires min-requires returns)

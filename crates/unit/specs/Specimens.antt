@@ -1,0 +1,115 @@
+-- The worked examples U1 to U9 of document 01, with every value that it gives, in one list that one
+-- computed check covers.
+use Prim.Native.Nat.{ℕ, _+_, _*_}
+use mathlib.Core.Bool.{Bool, true, not, _&&_}
+use mathlib.Core.List.{List, [], _∷_, _++_}
+use lib.Dec.{T, eqb}
+use lib.ListN.{replicate, getD, take}
+use lib.IntN.{pos}
+use Rattle.bits.specs.Bits.{leastBelow, greatestBelow, tabulate, numberOf}
+use Rattle.unit.specs.Control.{controlOf}
+use Rattle.unit.specs.Operand.{count, explicitLength, wordsOf}
+use Rattle.unit.specs.Compare.{boolRes, intRes1, intRes2}
+use Rattle.unit.specs.Output.{indexOf, maskOf, bitMask, elementMask, flagsOf}
+use Rattle.unit.specs.Calls.{explicit, PCMPESTRI, PCMPESTRM}
+
+abbrev pub all : List Bool → Bool
+all [] = true
+all (x ∷ xs) = x && all xs
+
+-- sixteen bytes, zero past those given
+unfoldable pub padded : List ℕ → List ℕ
+padded xs = take 16 (xs ++ replicate 16 0)
+
+-- IntRes1 of an explicit call as a number
+unfoldable pub firstResult : List ℕ → ℕ → List ℕ → ℕ → ℕ → ℕ
+firstResult x₁ l₁ x₂ l₂ c =
+    numberOf (count (controlOf c .words)) (intRes1 (explicit (padded x₁) (pos l₁) (padded x₂) (pos l₂) (controlOf c)))
+
+-- IntRes2, read off the bit mask of an explicit call
+unfoldable pub result : List ℕ → ℕ → List ℕ → ℕ → ℕ → ℕ
+result x₁ l₁ x₂ l₂ c =
+    getD (PCMPESTRM (padded x₁) (pos l₁) (padded x₂) (pos l₂) c .mask) 0 0 + 256 * getD (PCMPESTRM (padded x₁) (pos l₁) (padded x₂) (pos l₂) c .mask) 1 0
+
+unfoldable pub index : List ℕ → ℕ → List ℕ → ℕ → ℕ → ℕ
+index x₁ l₁ x₂ l₂ c = PCMPESTRI (padded x₁) (pos l₁) (padded x₂) (pos l₂) c .index
+
+unfoldable pub CF : List ℕ → ℕ → List ℕ → ℕ → ℕ → Bool
+CF x₁ l₁ x₂ l₂ c = PCMPESTRI (padded x₁) (pos l₁) (padded x₂) (pos l₂) c .flags .carry
+
+unfoldable pub ZF : List ℕ → ℕ → List ℕ → ℕ → ℕ → Bool
+ZF x₁ l₁ x₂ l₂ c = PCMPESTRI (padded x₁) (pos l₁) (padded x₂) (pos l₂) c .flags .zero
+
+unfoldable pub SF : List ℕ → ℕ → List ℕ → ℕ → ℕ → Bool
+SF x₁ l₁ x₂ l₂ c = PCMPESTRI (padded x₁) (pos l₁) (padded x₂) (pos l₂) c .flags .sign
+
+unfoldable pub OF : List ℕ → ℕ → List ℕ → ℕ → ℕ → Bool
+OF x₁ l₁ x₂ l₂ c = PCMPESTRI (padded x₁) (pos l₁) (padded x₂) (pos l₂) c .flags .overflow
+
+-- `ABC`, `ZZABZABCZZZZZZAB`, `SMITH`, `SMYTH`, `AZ` and `a-B`
+abbrev pub abc : List ℕ
+abc = 65 ∷ 66 ∷ 67 ∷ []
+
+abbrev pub text : List ℕ
+text = 90 ∷ 90 ∷ 65 ∷ 66 ∷ 90 ∷ 65 ∷ 66 ∷ 67 ∷ 90 ∷ 90 ∷ 90 ∷ 90 ∷ 90 ∷ 90 ∷ 65 ∷ 66 ∷ []
+
+abbrev pub smith : List ℕ
+smith = 83 ∷ 77 ∷ 73 ∷ 84 ∷ 72 ∷ []
+
+abbrev pub smyth : List ℕ
+smyth = 83 ∷ 77 ∷ 89 ∷ 84 ∷ 72 ∷ []
+
+abbrev pub az : List ℕ
+az = 65 ∷ 90 ∷ []
+
+abbrev pub a-B : List ℕ
+a-B = 97 ∷ 45 ∷ 66 ∷ []
+
+-- U1: first result, index, the four flags; and the index with bit 6 set
+unfoldable pub U1 : Bool
+U1 =
+    eqb (firstResult abc 3 text 16 0x0C) 0x4020 && eqb (result abc 3 text 16 0x0C) 0x4020 && eqb (index abc 3 text 16 0x0C) 5
+    && CF abc 3 text 16 0x0C
+    && not (ZF abc 3 text 16 0x0C)
+    && SF abc 3 text 16 0x0C
+    && not (OF abc 3 text 16 0x0C)
+    && eqb (index abc 3 text 16 0x4C) 14
+
+-- U2: the match that the text's end cuts off is not kept
+unfoldable pub U2 : Bool
+U2 = eqb (firstResult abc 3 text 15 0x0C) 0x0020 && eqb (result abc 3 text 15 0x0C) 0x0020 && ZF abc 3 text 15 0x0C
+
+-- U3: an empty needle stands everywhere
+unfoldable pub U3 : Bool
+U3 = eqb (firstResult [] 0 [] 0 0x0C) 0xFFFF && eqb (index [] 0 [] 0 0x0C) 0 && OF [] 0 [] 0 0x0C
+
+-- U4: an empty set has no member
+unfoldable pub U4 : Bool
+U4 = eqb (index [] 0 [] 0 0x00) 16 && not (CF [] 0 [] 0 0x00)
+
+-- U5: equal each, and the same negated
+unfoldable pub U5 : Bool
+U5 = eqb (result smith 5 smyth 5 0x08) 0xFFFB && eqb (result smith 5 smyth 5 0x18) 0x0004 && eqb (index smith 5 smyth 5 0x18) 2
+
+-- U6: negated where operand 2 is valid only
+unfoldable pub U6 : Bool
+U6 = eqb (result smith 5 smyth 5 0x38) 0xFFE4 && eqb (index smith 5 smyth 5 0x78) 15
+
+-- U7: a range, and a lone lower bound
+unfoldable pub U7 : Bool
+U7 = eqb (result az 2 a-B 3 0x04) 0x0004 && eqb (result az 1 a-B 3 0x04) 0
+
+-- U8: -1 to 1 signed, 255 to 1 unsigned
+unfoldable pub U8 : Bool
+U8 = eqb (result (0xFF ∷ 0x01 ∷ []) 2 (0x00 ∷ 0x80 ∷ []) 2 0x06) 0x0001 && eqb (result (0xFF ∷ 0x01 ∷ []) 2 (0x00 ∷ 0x80 ∷ []) 2 0x04) 0
+
+-- U9: eight bits and no more are negated in words
+unfoldable pub U9 : Bool
+U9 = eqb (index [] 0 [] 0 0x19) 8 && not (CF [] 0 [] 0 0x19)
+
+unfoldable pub specimens : List Bool
+specimens = U1 ∷ U2 ∷ U3 ∷ U4 ∷ U5 ∷ U6 ∷ U7 ∷ U8 ∷ U9 ∷ []
+
+pub specimens-hold : T (all specimens)
+unfolding leastBelow greatestBelow tabulate numberOf specimens U1 U2 U3 U4 U5 U6 U7 U8 U9 firstResult result index CF ZF SF OF padded PCMPESTRI PCMPESTRM controlOf explicitLength wordsOf flagsOf indexOf maskOf bitMask elementMask intRes2 intRes1 boolRes
+specimens-hold = tt
