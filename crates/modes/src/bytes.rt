@@ -10,11 +10,12 @@ ghost use mathlib.Core.Bool.{cond, false, not, _&&_};
 ghost use Prim.Native.Nat.{_≤_};
 ghost use lib.Dec.{eqb, ltb};
 ghost use lib.ListN.{getD};
+ghost use lib.IntN.{pos};
 ghost use lib.Bits.{bitOr};
 ghost use Rattle.bits.specs.Bits.{leastBelow, numberOf, tabulate};
 ghost use Rattle.unit.specs.Operand.{valueOf};
 ghost use Rattle.unit.specs.Compare.{operands, intRes1};
-ghost use Rattle.unit.specs.Calls.{explicit, implicit};
+ghost use Rattle.unit.specs.Calls.{explicit, implicit, PCMPESTRI};
 ghost use Rattle.unit.specs.Parts.{anyOf, between, comparedOf, eachOf, orderedOf, rangesOf};
 
 // The index of the first zero byte, or 16.
@@ -112,7 +113,7 @@ fn equal_each(x1: &[u8; 16], l1: usize, x2: &[u8; 16], l2: usize) -> u32
 
 // Bit j: equal each, negated. Parts of one length, as a search compares them, differ at a valid
 // element or nowhere.
-pub fn differ(x1: &[u8; 16], l1: usize, x2: &[u8; 16], l2: usize) -> u32
+fn differ(x1: &[u8; 16], l1: usize, x2: &[u8; 16], l2: usize) -> u32
     requires { ⌜ (l1 ≤ 16) × (l2 ≤ 16) ⌝ }
     ensures { λ r. ⌜ r ≡ numberOf 16 (λ j. not (eachOf (now (x1 .entry)) l1 (now (x2 .entry)) l2 j)) ⌝ }
 {
@@ -133,7 +134,7 @@ pub fn differ(x1: &[u8; 16], l1: usize, x2: &[u8; 16], l2: usize) -> u32
 // mark that the first turn shifts to bit 31, where both tests see it, and the second shifts out.
 // Whether a block holds the first element is hard to foretell, and a branch foretold wrongly costs
 // more than a compare.
-pub fn equal_ordered(x1: &[u8; 16], l1: usize, x2: &[u8; 16], l2: usize, valid: u32) -> u32
+fn equal_ordered(x1: &[u8; 16], l1: usize, x2: &[u8; 16], l2: usize, valid: u32) -> u32
     requires { ⌜ (l1 ≤ 16) × (l2 ≤ 16) × (valid ≡ numberOf 16 (λ j. ltb j l2)) ⌝ }
     ensures { λ r. ⌜ r ≡ numberOf 16 (orderedOf 16 (now (x1 .entry)) l1 (now (x2 .entry)) l2) ⌝ }
 {
@@ -154,8 +155,8 @@ pub fn equal_ordered(x1: &[u8; 16], l1: usize, x2: &[u8; 16], l2: usize, valid: 
 
 // IntRes1.
 fn aggregated(k: Control, x1: &[u8; 16], l1: usize, x2: &[u8; 16], l2: usize) -> u32
-    requires { ⌜ (k .words ≡ false) × (l1 ≤ 16) × (l2 ≤ 16) ⌝ }
-    ensures { λ r. ⌜ r ≡ numberOf 16 (intRes1 (operands k (now (x1 .entry)) l1 (now (x2 .entry)) l2)) ⌝ }
+    requires { ⌜ (l1 ≤ 16) × (l2 ≤ 16) ⌝ }
+    ensures { λ r. ⌜ (k .words ≡ false → r ≡ numberOf 16 (intRes1 (operands k (now (x1 .entry)) l1 (now (x2 .entry)) l2))) ⌝ }
 {
     let a = k.aggregation;
     match a {
@@ -168,8 +169,8 @@ fn aggregated(k: Control, x1: &[u8; 16], l1: usize, x2: &[u8; 16], l2: usize) ->
 
 // IntRes2, with the effective lengths.
 fn compared(k: Control, x1: &[u8; 16], l1: usize, x2: &[u8; 16], l2: usize) -> Compared
-    requires { ⌜ (k .words ≡ false) × (l1 ≤ 16) × (l2 ≤ 16) ⌝ }
-    ensures { λ r. ⌜ r ≡ comparedOf (operands k (now (x1 .entry)) l1 (now (x2 .entry)) l2) ⌝ }
+    requires { ⌜ (l1 ≤ 16) × (l2 ≤ 16) ⌝ }
+    ensures { λ r. ⌜ (k .words ≡ false → r ≡ comparedOf (operands k (now (x1 .entry)) l1 (now (x2 .entry)) l2)) ⌝ }
 {
     let p = k.polarity;
     let n = aggregated(k, x1, l1, x2, l2) ^ negation::negated(p, 16, l2);
@@ -180,7 +181,7 @@ fn compared(k: Control, x1: &[u8; 16], l1: usize, x2: &[u8; 16], l2: usize) -> C
     }
 }
 
-// What an explicit call compares.
+// What an explicit call compares, where the control is of bytes.
 pub fn explicit(
     operand1: [u8; 16],
     length1: i32,
@@ -188,20 +189,37 @@ pub fn explicit(
     length2: i32,
     k: Control,
 ) -> Compared
-    requires { ⌜ k .words ≡ false ⌝ }
-    ensures { λ r. ⌜ r ≡ comparedOf (explicit operand1 length1 operand2 length2 k) ⌝ }
+    ensures { λ r. ⌜ (k .words ≡ false → r ≡ comparedOf (explicit operand1 length1 operand2 length2 k)) ⌝ }
 {
     let l1 = operand::explicit_length(16, length1);
     let l2 = operand::explicit_length(16, length2);
     compared(k, &operand1, l1, &operand2, l2)
 }
 
-// What an implicit call compares.
+// What an implicit call compares, where the control is of bytes.
 pub fn implicit(operand1: [u8; 16], operand2: [u8; 16], k: Control) -> Compared
-    requires { ⌜ k .words ≡ false ⌝ }
-    ensures { λ r. ⌜ r ≡ comparedOf (implicit operand1 operand2 k) ⌝ }
+    ensures { λ r. ⌜ (k .words ≡ false → r ≡ comparedOf (implicit operand1 operand2 k)) ⌝ }
 {
     let l1 = implicit_length(&operand1);
     let l2 = implicit_length(&operand2);
     compared(k, &operand1, l1, &operand2, l2)
+}
+
+// The index of `pcmpestri` at control 0Ch: where operand 1 first stands in operand 2.
+pub fn index_0c(operand1: [u8; 16], length1: usize, operand2: [u8; 16], length2: usize) -> u32
+    ensures { λ r. ⌜ r ≡ PCMPESTRI operand1 (pos length1) operand2 (pos length2) 12 .index ⌝ }
+{
+    let l1 = bits::min(16, length1);
+    let l2 = bits::min(16, length2);
+    let found = equal_ordered(&operand1, l1, &operand2, l2, bits::first(l2));
+    bits::least(found, 16)
+}
+
+// The index of `pcmpestri` at control 18h: where the operands first differ.
+pub fn index_18(operand1: [u8; 16], length1: usize, operand2: [u8; 16], length2: usize) -> u32
+    ensures { λ r. ⌜ r ≡ PCMPESTRI operand1 (pos length1) operand2 (pos length2) 24 .index ⌝ }
+{
+    let l1 = bits::min(16, length1);
+    let l2 = bits::min(16, length2);
+    bits::least(differ(&operand1, l1, &operand2, l2), 16)
 }

@@ -10,11 +10,12 @@ ghost use mathlib.Core.Bool.{cond, true, not, _&&_};
 ghost use Prim.Native.Nat.{_≤_};
 ghost use lib.Dec.{eqb};
 ghost use lib.ListN.{getD};
+ghost use lib.IntN.{pos};
 ghost use lib.Bits.{bitOr};
 ghost use Rattle.bits.specs.Bits.{leastBelow, numberOf, tabulate};
 ghost use Rattle.unit.specs.Operand.{valueOf};
 ghost use Rattle.unit.specs.Compare.{operands, intRes1};
-ghost use Rattle.unit.specs.Calls.{explicit, implicit};
+ghost use Rattle.unit.specs.Calls.{explicit, implicit, PCMPESTRI};
 ghost use Rattle.unit.specs.Parts.{anyOf, between, comparedOf, eachOf, orderedOf, rangesOf};
 
 // The index of the first zero word, or 8.
@@ -132,7 +133,7 @@ fn same_length_differ_at(x1: &[u16; 8], x2: &[u16; 8], l: usize) -> u32
 
 // The least bit of equal each, negated, or 8. Parts of one length, as a search compares them,
 // differ at a valid element or nowhere.
-pub fn differ_at(x1: &[u16; 8], l1: usize, x2: &[u16; 8], l2: usize) -> u32
+fn differ_at(x1: &[u16; 8], l1: usize, x2: &[u16; 8], l2: usize) -> u32
     requires { ⌜ (l1 ≤ 8) × (l2 ≤ 8) ⌝ }
     ensures { λ r. ⌜ r ≡ leastBelow 8 (λ j. not (eachOf (now (x1 .entry)) l1 (now (x2 .entry)) l2 j)) ⌝ }
 {
@@ -146,7 +147,7 @@ pub fn differ_at(x1: &[u16; 8], l1: usize, x2: &[u16; 8], l2: usize) -> u32
 // stand nowhere, which it asks from the second element on: whether a block holds the first one is
 // hard to foretell, and a branch foretold wrongly costs more than a compare. `(i + 15) / 16` is 0
 // at the first element and 1 after it.
-pub fn equal_ordered(x1: &[u16; 8], l1: usize, x2: &[u16; 8], l2: usize) -> u32
+fn equal_ordered(x1: &[u16; 8], l1: usize, x2: &[u16; 8], l2: usize) -> u32
     requires { ⌜ (l1 ≤ 8) × (l2 ≤ 8) ⌝ }
     ensures { λ r. ⌜ r ≡ numberOf 8 (orderedOf 8 (now (x1 .entry)) l1 (now (x2 .entry)) l2) ⌝ }
 {
@@ -166,8 +167,8 @@ pub fn equal_ordered(x1: &[u16; 8], l1: usize, x2: &[u16; 8], l2: usize) -> u32
 
 // IntRes1.
 fn aggregated(k: Control, x1: &[u16; 8], l1: usize, x2: &[u16; 8], l2: usize) -> u32
-    requires { ⌜ (k .words ≡ true) × (l1 ≤ 8) × (l2 ≤ 8) ⌝ }
-    ensures { λ r. ⌜ r ≡ numberOf 8 (intRes1 (operands k (now (x1 .entry)) l1 (now (x2 .entry)) l2)) ⌝ }
+    requires { ⌜ (l1 ≤ 8) × (l2 ≤ 8) ⌝ }
+    ensures { λ r. ⌜ (k .words ≡ true → r ≡ numberOf 8 (intRes1 (operands k (now (x1 .entry)) l1 (now (x2 .entry)) l2))) ⌝ }
 {
     let a = k.aggregation;
     match a {
@@ -180,8 +181,8 @@ fn aggregated(k: Control, x1: &[u16; 8], l1: usize, x2: &[u16; 8], l2: usize) ->
 
 // IntRes2, with the effective lengths.
 fn compared(k: Control, x1: &[u16; 8], l1: usize, x2: &[u16; 8], l2: usize) -> Compared
-    requires { ⌜ (k .words ≡ true) × (l1 ≤ 8) × (l2 ≤ 8) ⌝ }
-    ensures { λ r. ⌜ r ≡ comparedOf (operands k (now (x1 .entry)) l1 (now (x2 .entry)) l2) ⌝ }
+    requires { ⌜ (l1 ≤ 8) × (l2 ≤ 8) ⌝ }
+    ensures { λ r. ⌜ (k .words ≡ true → r ≡ comparedOf (operands k (now (x1 .entry)) l1 (now (x2 .entry)) l2)) ⌝ }
 {
     let p = k.polarity;
     let n = aggregated(k, x1, l1, x2, l2) ^ negation::negated(p, 8, l2);
@@ -192,7 +193,7 @@ fn compared(k: Control, x1: &[u16; 8], l1: usize, x2: &[u16; 8], l2: usize) -> C
     }
 }
 
-// What an explicit call compares.
+// What an explicit call compares, where the control is of words.
 pub fn explicit(
     operand1: [u8; 16],
     length1: i32,
@@ -200,8 +201,7 @@ pub fn explicit(
     length2: i32,
     k: Control,
 ) -> Compared
-    requires { ⌜ k .words ≡ true ⌝ }
-    ensures { λ r. ⌜ r ≡ comparedOf (explicit operand1 length1 operand2 length2 k) ⌝ }
+    ensures { λ r. ⌜ (k .words ≡ true → r ≡ comparedOf (explicit operand1 length1 operand2 length2 k)) ⌝ }
 {
     let l1 = operand::explicit_length(8, length1);
     let l2 = operand::explicit_length(8, length2);
@@ -210,14 +210,35 @@ pub fn explicit(
     compared(k, &x1, l1, &x2, l2)
 }
 
-// What an implicit call compares.
+// What an implicit call compares, where the control is of words.
 pub fn implicit(operand1: [u8; 16], operand2: [u8; 16], k: Control) -> Compared
-    requires { ⌜ k .words ≡ true ⌝ }
-    ensures { λ r. ⌜ r ≡ comparedOf (implicit operand1 operand2 k) ⌝ }
+    ensures { λ r. ⌜ (k .words ≡ true → r ≡ comparedOf (implicit operand1 operand2 k)) ⌝ }
 {
     let x1 = operand::words_of(operand1);
     let x2 = operand::words_of(operand2);
     let l1 = implicit_length(&x1);
     let l2 = implicit_length(&x2);
     compared(k, &x1, l1, &x2, l2)
+}
+
+// The index of `pcmpestri` at control 0Dh: where operand 1 first stands in operand 2.
+pub fn index_0d(operand1: [u8; 16], length1: usize, operand2: [u8; 16], length2: usize) -> u32
+    ensures { λ r. ⌜ r ≡ PCMPESTRI operand1 (pos length1) operand2 (pos length2) 13 .index ⌝ }
+{
+    let x1 = operand::words_of(operand1);
+    let x2 = operand::words_of(operand2);
+    let l1 = bits::min(8, length1);
+    let l2 = bits::min(8, length2);
+    bits::least(equal_ordered(&x1, l1, &x2, l2), 8)
+}
+
+// The index of `pcmpestri` at control 19h: where the operands first differ.
+pub fn index_19(operand1: [u8; 16], length1: usize, operand2: [u8; 16], length2: usize) -> u32
+    ensures { λ r. ⌜ r ≡ PCMPESTRI operand1 (pos length1) operand2 (pos length2) 25 .index ⌝ }
+{
+    let x1 = operand::words_of(operand1);
+    let x2 = operand::words_of(operand2);
+    let l1 = bits::min(8, length1);
+    let l2 = bits::min(8, length2);
+    differ_at(&x1, l1, &x2, l2)
 }

@@ -12,7 +12,6 @@ use modes::words;
 use stages::fields;
 use stages::index;
 use stages::mask;
-use stages::operand;
 use unit::IndexAnswer;
 use unit::MaskAnswer;
 ghost use mathlib.Core.Path.{_≡_};
@@ -95,19 +94,14 @@ pub fn pcmpistrm(operand1: [u8; 16], operand2: [u8; 16], control: u8) -> MaskAns
 pub fn pcmpestri_0c(operand1: [u8; 16], length1: usize, operand2: [u8; 16], length2: usize) -> u32
     ensures { λ r. ⌜ r ≡ PCMPESTRI operand1 (pos length1) operand2 (pos length2) 12 .index ⌝ }
 {
-    let l1 = bits::min(16, length1);
-    let l2 = bits::min(16, length2);
-    let found = bytes::equal_ordered(&operand1, l1, &operand2, l2, bits::first(l2));
-    bits::least(found, 16)
+    bytes::index_0c(operand1, length1, operand2, length2)
 }
 
 // The index of `pcmpestri` at control 18h: where the operands first differ, in unsigned bytes.
 pub fn pcmpestri_18(operand1: [u8; 16], length1: usize, operand2: [u8; 16], length2: usize) -> u32
     ensures { λ r. ⌜ r ≡ PCMPESTRI operand1 (pos length1) operand2 (pos length2) 24 .index ⌝ }
 {
-    let l1 = bits::min(16, length1);
-    let l2 = bits::min(16, length2);
-    bits::least(bytes::differ(&operand1, l1, &operand2, l2), 16)
+    bytes::index_18(operand1, length1, operand2, length2)
 }
 
 // The index of `pcmpestri` at control 0Dh: where operand 1 first stands in operand 2, in unsigned
@@ -115,20 +109,12 @@ pub fn pcmpestri_18(operand1: [u8; 16], length1: usize, operand2: [u8; 16], leng
 pub fn pcmpestri_0d(operand1: [u8; 16], length1: usize, operand2: [u8; 16], length2: usize) -> u32
     ensures { λ r. ⌜ r ≡ PCMPESTRI operand1 (pos length1) operand2 (pos length2) 13 .index ⌝ }
 {
-    let x1 = operand::words_of(operand1);
-    let x2 = operand::words_of(operand2);
-    let l1 = bits::min(8, length1);
-    let l2 = bits::min(8, length2);
-    bits::least(words::equal_ordered(&x1, l1, &x2, l2), 8)
+    words::index_0d(operand1, length1, operand2, length2)
 }
 
 // The index of `pcmpestri` at control 19h: where the operands first differ, in unsigned words.
 pub fn pcmpestri_19(operand1: [u8; 16], length1: usize, operand2: [u8; 16], length2: usize) -> u32
     ensures { λ r. ⌜ r ≡ PCMPESTRI operand1 (pos length1) operand2 (pos length2) 25 .index ⌝ }
 {
-    let x1 = operand::words_of(operand1);
-    let x2 = operand::words_of(operand2);
-    let l1 = bits::min(8, length1);
-    let l2 = bits::min(8, length2);
-    words::differ_at(&x1, l1, &x2, l2)
+    words::index_19(operand1, length1, operand2, length2)
 }

@@ -7,10 +7,9 @@ ghost use lib.Dec.{ltb};
 ghost use Rattle.bits.specs.Bits.{numberOf};
 ghost use Rattle.unit.specs.Compare.{withPolarity};
 
-// The bits of IntRes1 that the polarity negates, for operands of b elements.
+// The bits of IntRes1 that the polarity negates, for operands of b elements, of which l2 are valid.
 pub fn negated(p: Polarity, b: usize, l2: usize) -> u32
-    requires { ⌜ (b ≤ 16) × (l2 ≤ b) ⌝ }
-    ensures { λ r. ⌜ r ≡ numberOf b (λ j. withPolarity p (ltb j l2) false) ⌝ }
+    ensures { λ r. ⌜ (b ≤ 16 → l2 ≤ b → r ≡ numberOf b (λ j. withPolarity p (ltb j l2) false)) ⌝ }
 {
     match p {
         Polarity::Positive => 0,

@@ -30,8 +30,7 @@ fn magnitude(length: i32) -> usize
 
 // The effective length of an operand of b elements, from an explicit length.
 pub fn explicit_length(b: usize, length: i32) -> usize
-    requires { ⌜ b ≤ 16 ⌝ }
-    ensures { λ r. ⌜ r ≡ explicitLength b length ⌝ }
+    ensures { λ r. ⌜ (b ≤ 16 → r ≡ explicitLength b length) ⌝ }
 {
     bits::min(b, magnitude(length))
 }

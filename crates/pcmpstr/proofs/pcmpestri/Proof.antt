@@ -36,7 +36,7 @@ returns-2 c =
     let s = c .before .before .before .before .before in
     let a = s .args in
     let k = c .before .before .before .decode in
-    index-called (explicit (a .operand1) (a .length1) (a .operand2) (a .length2)) (a .control) (k .result) (c .before .explicit .result) refl (omega arith) (k .ensures) (rw (toZ-ofZ w32 (a .length1) (s .fits .length1), toZ-ofZ w32 (a .length2) (s .fits .length2)) at (c .before .explicit .ensures)) (c .answer .result) (c .answer .ensures)
+    index-called (explicit (a .operand1) (a .length1) (a .operand2) (a .length2)) (a .control) (k .result) (c .before .explicit .result) refl (omega arith) (k .ensures) (rw (toZ-ofZ w32 (a .length1) (s .fits .length1), toZ-ofZ w32 (a .length2) (s .fits .length2)) at (c .before .explicit .ensures (c .before .before .if2 .taken))) (c .answer .result) (c .answer .ensures)
 
 explicit-requires-2 : tie.Need-explicit-requires-2
 explicit-requires-2 c κs = search needs
@@ -50,7 +50,7 @@ returns-3 c =
     let s = c .before .before .before .before .before in
     let a = s .args in
     let k = c .before .before .before .decode in
-    index-called (explicit (a .operand1) (a .length1) (a .operand2) (a .length2)) (a .control) (k .result) (c .before .explicit2 .result) refl (omega arith) (k .ensures) (rw (toZ-ofZ w32 (a .length1) (s .fits .length1), toZ-ofZ w32 (a .length2) (s .fits .length2)) at (c .before .explicit2 .ensures)) (c .answer2 .result) (c .answer2 .ensures)
+    index-called (explicit (a .operand1) (a .length1) (a .operand2) (a .length2)) (a .control) (k .result) (c .before .explicit2 .result) refl (omega arith) (k .ensures) (rw (toZ-ofZ w32 (a .length1) (s .fits .length1), toZ-ofZ w32 (a .length2) (s .fits .length2)) at (c .before .explicit2 .ensures (c .before .before .if2 .left))) (c .answer2 .result) (c .answer2 .ensures)
 
 pub pcmpestri-spec : {M : Type 1} → statement M
 pcmpestri-spec =

@@ -34,7 +34,7 @@ returns-2 c =
     let s = c .before .before .before .before .before in
     let a = s .args in
     let k = c .before .before .before .decode in
-    index-called (implicit (a .operand1) (a .operand2)) (a .control) (k .result) (c .before .implicit .result) refl (omega arith) (k .ensures) (c .before .implicit .ensures) (c .answer .result) (c .answer .ensures)
+    index-called (implicit (a .operand1) (a .operand2)) (a .control) (k .result) (c .before .implicit .result) refl (omega arith) (k .ensures) (c .before .implicit .ensures (c .before .before .if2 .taken)) (c .answer .result) (c .answer .ensures)
 
 implicit-requires-2 : tie.Need-implicit-requires-2
 implicit-requires-2 c κs = search needs
@@ -48,7 +48,7 @@ returns-3 c =
     let s = c .before .before .before .before .before in
     let a = s .args in
     let k = c .before .before .before .decode in
-    index-called (implicit (a .operand1) (a .operand2)) (a .control) (k .result) (c .before .implicit2 .result) refl (omega arith) (k .ensures) (c .before .implicit2 .ensures) (c .answer2 .result) (c .answer2 .ensures)
+    index-called (implicit (a .operand1) (a .operand2)) (a .control) (k .result) (c .before .implicit2 .result) refl (omega arith) (k .ensures) (c .before .implicit2 .ensures (c .before .before .if2 .left)) (c .answer2 .result) (c .answer2 .ensures)
 
 pub pcmpistri-spec : {M : Type 1} → statement M
 pcmpistri-spec =

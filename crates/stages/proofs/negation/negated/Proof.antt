@@ -25,20 +25,20 @@ first-requires-2 : tie.Need-first-requires-2
 first-requires-2 c κs = search needs
 
 returns : tie.Need-returns
-returns c = rw (c .enum-told .given .1) (no-bits (c .before .before .args .b))
+returns c = λ most within. rw (c .enum-told .given .1) (no-bits (c .before .before .args .b))
 
 returns-2 : tie.Need-returns-2
 returns-2 c =
     let s = c .before .before .before in
-    rw (c .before .enum-told2 .given .1) (negated-all (s .args .b) (s .args .l2) (c .first .result) (s .pre .0) (c .first .ensures))
+    λ most within. rw (c .before .enum-told2 .given .1) (negated-all (s .args .b) (s .args .l2) (c .first .result) most (c .first .ensures))
 
 returns-3 : tie.Need-returns-3
-returns-3 c = rw (c .enum-told3 .given .1) (no-bits (c .before .before .args .b))
+returns-3 c = λ most within. rw (c .enum-told3 .given .1) (no-bits (c .before .before .args .b))
 
 returns-4 : tie.Need-returns-4
 returns-4 c =
     let s = c .before .before .before in
-    rw (c .before .enum-told4 .given .1) (negated-valid (s .args .b) (s .args .l2) (c .first2 .result) (s .pre .0) (s .pre .1) (c .first2 .ensures))
+    λ most within. rw (c .before .enum-told4 .given .1) (negated-valid (s .args .b) (s .args .l2) (c .first2 .result) most within (c .first2 .ensures))
 
 pub negated-spec : {M : Type 1} → statement M
 negated-spec =

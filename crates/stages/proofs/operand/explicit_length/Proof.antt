@@ -18,7 +18,7 @@ returns : tie.Need-returns
 unfolding explicitLength
 returns c =
     let s = c .before .before in
-    omega (arith, c .min .ensures, rw (toZ-ofZ w32 (s .args .length) (s .fits .length)) at (c .before .magnitude .ensures))
+    λ most. omega (arith, most, c .min .ensures, rw (toZ-ofZ w32 (s .args .length) (s .fits .length)) at (c .before .magnitude .ensures))
 
 pub explicit-length-spec : {M : Type 1} → statement M
 explicit-length-spec = tie.close (tie.spec magnitude-requires min-requires returns)
