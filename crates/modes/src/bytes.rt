@@ -155,8 +155,8 @@ fn equal_ordered(x1: &[u8; 16], l1: usize, x2: &[u8; 16], l2: usize, valid: u32)
 
 // IntRes1.
 fn aggregated(k: Control, x1: &[u8; 16], l1: usize, x2: &[u8; 16], l2: usize) -> u32
-    requires { ⌜ (l1 ≤ 16) × (l2 ≤ 16) ⌝ }
-    ensures { λ r. ⌜ (k .words ≡ false → r ≡ numberOf 16 (intRes1 (operands k (now (x1 .entry)) l1 (now (x2 .entry)) l2))) ⌝ }
+    requires { ⌜ (k .words ≡ false) × (l1 ≤ 16) × (l2 ≤ 16) ⌝ }
+    ensures { λ r. ⌜ r ≡ numberOf 16 (intRes1 (operands k (now (x1 .entry)) l1 (now (x2 .entry)) l2)) ⌝ }
 {
     let a = k.aggregation;
     match a {
@@ -169,11 +169,11 @@ fn aggregated(k: Control, x1: &[u8; 16], l1: usize, x2: &[u8; 16], l2: usize) ->
 
 // IntRes2, with the effective lengths.
 fn compared(k: Control, x1: &[u8; 16], l1: usize, x2: &[u8; 16], l2: usize) -> Compared
-    requires { ⌜ (l1 ≤ 16) × (l2 ≤ 16) ⌝ }
-    ensures { λ r. ⌜ (k .words ≡ false → r ≡ comparedOf (operands k (now (x1 .entry)) l1 (now (x2 .entry)) l2)) ⌝ }
+    requires { ⌜ (k .words ≡ false) × (l1 ≤ 16) × (l2 ≤ 16) ⌝ }
+    ensures { λ r. ⌜ r ≡ comparedOf (operands k (now (x1 .entry)) l1 (now (x2 .entry)) l2) ⌝ }
 {
     let p = k.polarity;
-    let n = aggregated(k, x1, l1, x2, l2) ^ negation::negated(p, 16, l2);
+    let n = aggregated(k, x1, l1, x2, l2) ^ negation::negated(p, false, l2);
     Compared {
         bits: n,
         length1: l1,
@@ -181,24 +181,26 @@ fn compared(k: Control, x1: &[u8; 16], l1: usize, x2: &[u8; 16], l2: usize) -> C
     }
 }
 
-// What an explicit call compares, where the control is of bytes.
-pub fn explicit(
+// What an explicit call compares.
+pub(crate) fn explicit(
     operand1: [u8; 16],
     length1: i32,
     operand2: [u8; 16],
     length2: i32,
     k: Control,
 ) -> Compared
-    ensures { λ r. ⌜ (k .words ≡ false → r ≡ comparedOf (explicit operand1 length1 operand2 length2 k)) ⌝ }
+    requires { ⌜ k .words ≡ false ⌝ }
+    ensures { λ r. ⌜ r ≡ comparedOf (explicit operand1 length1 operand2 length2 k) ⌝ }
 {
-    let l1 = operand::explicit_length(16, length1);
-    let l2 = operand::explicit_length(16, length2);
+    let l1 = operand::explicit_length(false, length1);
+    let l2 = operand::explicit_length(false, length2);
     compared(k, &operand1, l1, &operand2, l2)
 }
 
-// What an implicit call compares, where the control is of bytes.
-pub fn implicit(operand1: [u8; 16], operand2: [u8; 16], k: Control) -> Compared
-    ensures { λ r. ⌜ (k .words ≡ false → r ≡ comparedOf (implicit operand1 operand2 k)) ⌝ }
+// What an implicit call compares.
+pub(crate) fn implicit(operand1: [u8; 16], operand2: [u8; 16], k: Control) -> Compared
+    requires { ⌜ k .words ≡ false ⌝ }
+    ensures { λ r. ⌜ r ≡ comparedOf (implicit operand1 operand2 k) ⌝ }
 {
     let l1 = implicit_length(&operand1);
     let l2 = implicit_length(&operand2);

@@ -167,8 +167,8 @@ fn equal_ordered(x1: &[u16; 8], l1: usize, x2: &[u16; 8], l2: usize) -> u32
 
 // IntRes1.
 fn aggregated(k: Control, x1: &[u16; 8], l1: usize, x2: &[u16; 8], l2: usize) -> u32
-    requires { ⌜ (l1 ≤ 8) × (l2 ≤ 8) ⌝ }
-    ensures { λ r. ⌜ (k .words ≡ true → r ≡ numberOf 8 (intRes1 (operands k (now (x1 .entry)) l1 (now (x2 .entry)) l2))) ⌝ }
+    requires { ⌜ (k .words ≡ true) × (l1 ≤ 8) × (l2 ≤ 8) ⌝ }
+    ensures { λ r. ⌜ r ≡ numberOf 8 (intRes1 (operands k (now (x1 .entry)) l1 (now (x2 .entry)) l2)) ⌝ }
 {
     let a = k.aggregation;
     match a {
@@ -181,11 +181,11 @@ fn aggregated(k: Control, x1: &[u16; 8], l1: usize, x2: &[u16; 8], l2: usize) ->
 
 // IntRes2, with the effective lengths.
 fn compared(k: Control, x1: &[u16; 8], l1: usize, x2: &[u16; 8], l2: usize) -> Compared
-    requires { ⌜ (l1 ≤ 8) × (l2 ≤ 8) ⌝ }
-    ensures { λ r. ⌜ (k .words ≡ true → r ≡ comparedOf (operands k (now (x1 .entry)) l1 (now (x2 .entry)) l2)) ⌝ }
+    requires { ⌜ (k .words ≡ true) × (l1 ≤ 8) × (l2 ≤ 8) ⌝ }
+    ensures { λ r. ⌜ r ≡ comparedOf (operands k (now (x1 .entry)) l1 (now (x2 .entry)) l2) ⌝ }
 {
     let p = k.polarity;
-    let n = aggregated(k, x1, l1, x2, l2) ^ negation::negated(p, 8, l2);
+    let n = aggregated(k, x1, l1, x2, l2) ^ negation::negated(p, true, l2);
     Compared {
         bits: n,
         length1: l1,
@@ -193,26 +193,28 @@ fn compared(k: Control, x1: &[u16; 8], l1: usize, x2: &[u16; 8], l2: usize) -> C
     }
 }
 
-// What an explicit call compares, where the control is of words.
-pub fn explicit(
+// What an explicit call compares.
+pub(crate) fn explicit(
     operand1: [u8; 16],
     length1: i32,
     operand2: [u8; 16],
     length2: i32,
     k: Control,
 ) -> Compared
-    ensures { λ r. ⌜ (k .words ≡ true → r ≡ comparedOf (explicit operand1 length1 operand2 length2 k)) ⌝ }
+    requires { ⌜ k .words ≡ true ⌝ }
+    ensures { λ r. ⌜ r ≡ comparedOf (explicit operand1 length1 operand2 length2 k) ⌝ }
 {
-    let l1 = operand::explicit_length(8, length1);
-    let l2 = operand::explicit_length(8, length2);
+    let l1 = operand::explicit_length(true, length1);
+    let l2 = operand::explicit_length(true, length2);
     let x1 = operand::words_of(operand1);
     let x2 = operand::words_of(operand2);
     compared(k, &x1, l1, &x2, l2)
 }
 
-// What an implicit call compares, where the control is of words.
-pub fn implicit(operand1: [u8; 16], operand2: [u8; 16], k: Control) -> Compared
-    ensures { λ r. ⌜ (k .words ≡ true → r ≡ comparedOf (implicit operand1 operand2 k)) ⌝ }
+// What an implicit call compares.
+pub(crate) fn implicit(operand1: [u8; 16], operand2: [u8; 16], k: Control) -> Compared
+    requires { ⌜ k .words ≡ true ⌝ }
+    ensures { λ r. ⌜ r ≡ comparedOf (implicit operand1 operand2 k) ⌝ }
 {
     let x1 = operand::words_of(operand1);
     let x2 = operand::words_of(operand2);

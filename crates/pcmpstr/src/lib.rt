@@ -4,8 +4,7 @@
 // Public calls: `pcmpestri`, `pcmpestrm`, `pcmpistri`, `pcmpistrm`, with the arguments of Intel's
 // intrinsics in their order; and for searches `pcmpestri_0c`, `pcmpestri_0d`, `pcmpestri_18`,
 // `pcmpestri_19`, the index of `pcmpestri` at that control, for lengths that are not negative. Data
-// flows through `stages::fields`, then `modes::bytes` or `modes::words`, then `stages::index` or
-// `stages::mask`.
+// flows through `stages::fields`, then `modes`, then `stages::index` or `stages::mask`.
 
 use modes::bytes;
 use modes::words;
@@ -35,10 +34,7 @@ pub fn pcmpestri(
         return index::refused();
     }
     let k = fields::decode(control);
-    if k.words {
-        return index::answer(k, words::explicit(operand1, length1, operand2, length2, k));
-    }
-    index::answer(k, bytes::explicit(operand1, length1, operand2, length2, k))
+    index::answer(k, modes::explicit(operand1, length1, operand2, length2, k))
 }
 
 // Packed compare of strings of explicit length, the answer a mask.
@@ -55,10 +51,7 @@ pub fn pcmpestrm(
         return mask::refused();
     }
     let k = fields::decode(control);
-    if k.words {
-        return mask::answer(k, words::explicit(operand1, length1, operand2, length2, k));
-    }
-    mask::answer(k, bytes::explicit(operand1, length1, operand2, length2, k))
+    mask::answer(k, modes::explicit(operand1, length1, operand2, length2, k))
 }
 
 // Packed compare of strings of implicit length, the answer an index.
@@ -69,10 +62,7 @@ pub fn pcmpistri(operand1: [u8; 16], operand2: [u8; 16], control: u8) -> IndexAn
         return index::refused();
     }
     let k = fields::decode(control);
-    if k.words {
-        return index::answer(k, words::implicit(operand1, operand2, k));
-    }
-    index::answer(k, bytes::implicit(operand1, operand2, k))
+    index::answer(k, modes::implicit(operand1, operand2, k))
 }
 
 // Packed compare of strings of implicit length, the answer a mask.
@@ -83,10 +73,7 @@ pub fn pcmpistrm(operand1: [u8; 16], operand2: [u8; 16], control: u8) -> MaskAns
         return mask::refused();
     }
     let k = fields::decode(control);
-    if k.words {
-        return mask::answer(k, words::implicit(operand1, operand2, k));
-    }
-    mask::answer(k, bytes::implicit(operand1, operand2, k))
+    mask::answer(k, modes::implicit(operand1, operand2, k))
 }
 
 // The index of `pcmpestri` at control 0Ch: where operand 1 first stands in operand 2, in unsigned

@@ -3,6 +3,7 @@ use crate::AHEAD;
 use crate::Scanned;
 use crate::unasked;
 use blocks::whole_words;
+use stages::operand::word;
 ghost use mathlib.Core.Path.{_≡_};
 ghost use mathlib.Core.Bool.{false, true};
 ghost use Prim.Native.Nat.{ℕ, _+_, _*_, _≤_, _<_};
@@ -10,13 +11,6 @@ ghost use lib.ListN.{length};
 ghost use Rattle.unit.specs.Operand.{wordsOf};
 ghost use Rattle.scan.specs.Letters.{Passed, Reached, reach, standsAt, startsAt};
 ghost use Rattle.scan.specs.Scan.{agreeing, scanOf};
-
-// A word of two bytes, low byte first.
-fn word(low: u8, high: u8) -> u16
-    ensures { λ r. ⌜ r ≡ low + 256 * high ⌝ }
-{
-    (low as u16) + 256 * (high as u16)
-}
 
 // Whether letter i stands in its place, for an operand that begins at place j of a block, or is not
 // asked for there. `part` is the block and the words ahead of it.

@@ -1,6 +1,6 @@
 // The elements and the effective length of an operand.
 ghost use mathlib.Core.Path.{_≡_};
-ghost use Prim.Native.Nat.{_+_, _*_, _≤_, min};
+ghost use Prim.Native.Nat.{_+_, _*_, min};
 ghost use lib.IntN.{natAbs};
 ghost use Rattle.unit.specs.Operand.{count, explicitLength, wordsOf};
 
@@ -28,15 +28,15 @@ fn magnitude(length: i32) -> usize
     length as usize
 }
 
-// The effective length of an operand of b elements, from an explicit length.
-pub fn explicit_length(b: usize, length: i32) -> usize
-    ensures { λ r. ⌜ (b ≤ 16 → r ≡ explicitLength b length) ⌝ }
+// The effective length of an operand, from an explicit length.
+pub fn explicit_length(words: bool, length: i32) -> usize
+    ensures { λ r. ⌜ r ≡ explicitLength (count words) length ⌝ }
 {
-    bits::min(b, magnitude(length))
+    bits::min(count_of(words), magnitude(length))
 }
 
 // A word of two bytes, low byte first.
-fn word(low: u8, high: u8) -> u16
+pub fn word(low: u8, high: u8) -> u16
     ensures { λ r. ⌜ r ≡ low + 256 * high ⌝ }
 {
     (low as u16) + 256 * (high as u16)

@@ -11,6 +11,8 @@ use lib.IntN.{ℤ, pos}
 use lib.Signed.{leZ}
 use lib.Count.{trailingZeros}
 use lib.Bits.{bitXor}
+use mathlib.Core.Logic.{by-cases}
+use native.Mathlib.Decide.{decLt}
 use borrow.Author.Tests.{eq-eqb, ne-eqb, lt-ltb, le-ltb}
 use Rattle.bits.specs.Bits.{anyBelow, leastBelow, numberOf, tabulate}
 use Rattle.bits.proofs.Below.{and-over-or, and-false, any-cut, any-same, number-same, number-none}
@@ -126,8 +128,12 @@ as-is false = refl
 pub negated-all : (b l v : ℕ) → b ≤ 16 → v ≡ numberOf 16 (λ j. ltb j b) → v ≡ numberOf b (λ j. withPolarity Negative (ltb j l) false)
 negated-all b l v h e = first-cut b b v h (omega arith) e ∙ every-bit b b (omega arith)
 
-pub negated-valid : (b l v : ℕ) → b ≤ 16 → l ≤ b → v ≡ numberOf 16 (λ j. ltb j l) → v ≡ numberOf b (λ j. withPolarity MaskedNegative (ltb j l) false)
-negated-valid b l v h u e = first-cut b l v h u e ∙ number-same b _ _ (λ j z. as-is (ltb j l))
+below-least : (j b l : ℕ) → j < b → ltb j (min b l) ≡ ltb j l
+below-least j b l h = by-cases (decLt j l) (λ g. rw (lt-ltb j l g, lt-ltb j (min b l) (omega arith))) (λ n. rw (le-ltb j l (omega arith), le-ltb j (min b l) (omega arith)))
+
+-- l may be above b: then every element is valid
+pub negated-valid : (b l v : ℕ) → b ≤ 16 → v ≡ numberOf 16 (λ j. ltb j (min b l)) → v ≡ numberOf b (λ j. withPolarity MaskedNegative (ltb j l) false)
+negated-valid b l v h e = first-cut b (min b l) v h (omega arith) e ∙ number-same b _ _ (λ j z. below-least j b l z ∙ as-is (ltb j l))
 
 pub compared-is : (k : Control) (w : Bool) (x₁ : List ℕ) (l₁ : ℕ) (x₂ : List ℕ) (l₂ : ℕ) (g t : ℕ) → k .words ≡ w → g ≡ numberOf (count w) (intRes1 (operands k x₁ l₁ x₂ l₂)) → t ≡ numberOf (count w) (λ j. withPolarity (k .polarity) (ltb j l₂) false) → _≡_ {A = Compared} (record { bits = bitXor g t; length1 = l₁; length2 = l₂ }) (comparedOf (operands k x₁ l₁ x₂ l₂))
 unfolding intRes2

@@ -33,24 +33,10 @@ answer-requires c κs = search needs
 returns-2 : tie.Need-returns-2
 unfolding PCMPESTRM
 returns-2 c =
-    let s = c .before .before .before .before .before in
+    let s = c .before .before .before .before in
     let a = s .args in
-    let k = c .before .before .before .decode in
-    mask-called (explicit (a .operand1) (a .length1) (a .operand2) (a .length2)) (a .control) (k .result) (c .before .explicit .result) refl (omega arith) (k .ensures) (rw (toZ-ofZ w32 (a .length1) (s .fits .length1), toZ-ofZ w32 (a .length2) (s .fits .length2)) at (c .before .explicit .ensures (c .before .before .if2 .taken))) (c .answer .result) (c .answer .ensures)
-
-explicit-requires-2 : tie.Need-explicit-requires-2
-explicit-requires-2 c κs = search needs
-
-answer-requires-2 : tie.Need-answer-requires-2
-answer-requires-2 c κs = search needs
-
-returns-3 : tie.Need-returns-3
-unfolding PCMPESTRM
-returns-3 c =
-    let s = c .before .before .before .before .before in
-    let a = s .args in
-    let k = c .before .before .before .decode in
-    mask-called (explicit (a .operand1) (a .length1) (a .operand2) (a .length2)) (a .control) (k .result) (c .before .explicit2 .result) refl (omega arith) (k .ensures) (rw (toZ-ofZ w32 (a .length1) (s .fits .length1), toZ-ofZ w32 (a .length2) (s .fits .length2)) at (c .before .explicit2 .ensures (c .before .before .if2 .left))) (c .answer2 .result) (c .answer2 .ensures)
+    let k = c .before .before .decode in
+    mask-called (explicit (a .operand1) (a .length1) (a .operand2) (a .length2)) (a .control) (k .result) (c .before .explicit .result) refl (omega arith) (k .ensures) (rw (toZ-ofZ w32 (a .length1) (s .fits .length1), toZ-ofZ w32 (a .length2) (s .fits .length2)) at (c .before .explicit .ensures)) (c .answer .result) (c .answer .ensures)
 
 pub pcmpestrm-spec : {M : Type 1} → statement M
 pcmpestrm-spec =
@@ -61,7 +47,4 @@ pcmpestrm-spec =
     decode-requires
     explicit-requires
     answer-requires
-    returns-2
-    explicit-requires-2
-    answer-requires-2
-    returns-3)
+    returns-2)

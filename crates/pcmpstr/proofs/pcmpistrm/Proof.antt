@@ -31,24 +31,10 @@ answer-requires c κs = search needs
 returns-2 : tie.Need-returns-2
 unfolding PCMPISTRM
 returns-2 c =
-    let s = c .before .before .before .before .before in
+    let s = c .before .before .before .before in
     let a = s .args in
-    let k = c .before .before .before .decode in
-    mask-called (implicit (a .operand1) (a .operand2)) (a .control) (k .result) (c .before .implicit .result) refl (omega arith) (k .ensures) (c .before .implicit .ensures (c .before .before .if2 .taken)) (c .answer .result) (c .answer .ensures)
-
-implicit-requires-2 : tie.Need-implicit-requires-2
-implicit-requires-2 c κs = search needs
-
-answer-requires-2 : tie.Need-answer-requires-2
-answer-requires-2 c κs = search needs
-
-returns-3 : tie.Need-returns-3
-unfolding PCMPISTRM
-returns-3 c =
-    let s = c .before .before .before .before .before in
-    let a = s .args in
-    let k = c .before .before .before .decode in
-    mask-called (implicit (a .operand1) (a .operand2)) (a .control) (k .result) (c .before .implicit2 .result) refl (omega arith) (k .ensures) (c .before .implicit2 .ensures (c .before .before .if2 .left)) (c .answer2 .result) (c .answer2 .ensures)
+    let k = c .before .before .decode in
+    mask-called (implicit (a .operand1) (a .operand2)) (a .control) (k .result) (c .before .implicit .result) refl (omega arith) (k .ensures) (c .before .implicit .ensures) (c .answer .result) (c .answer .ensures)
 
 pub pcmpistrm-spec : {M : Type 1} → statement M
 pcmpistrm-spec =
@@ -59,7 +45,4 @@ pcmpistrm-spec =
     decode-requires
     implicit-requires
     answer-requires
-    returns-2
-    implicit-requires-2
-    answer-requires-2
-    returns-3)
+    returns-2)

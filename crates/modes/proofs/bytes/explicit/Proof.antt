@@ -6,7 +6,6 @@ use mir.Syntax.{w32}
 use mir.ValLaws.{toZ-ofZ}
 use Rattle.unit.proofs.Unit.{explicit-most, explicit-is}
 use borrow.Author.Needs.{needs}
-use native.Mathlib.Omega.{arith}
 use Rattle.modes.proofs.bytes.explicit.Statement.{statement}
 use Rattle.modes.proofs.bytes.explicit.Tie as tie
 
@@ -18,7 +17,7 @@ explicit-length-requires-2 c κs = search needs
 
 compared-requires : tie.Need-compared-requires
 compared-requires c κs =
-    (rw (c .before .before .before .explicit-length .ensures (omega arith)) (explicit-most 16 _), rw (c .before .before .explicit-length2 .ensures (omega arith)) (explicit-most 16 _))
+    (c .before .before .before .before .pre, rw (c .before .before .before .explicit-length .ensures) (explicit-most 16 _), rw (c .before .before .explicit-length2 .ensures) (explicit-most 16 _))
 
 returns : tie.Need-returns
 returns c =
@@ -26,9 +25,9 @@ returns c =
     let a = s .args in
     let f = c .before .before .before .before .explicit-length in
     let g = c .before .before .before .explicit-length2 in
-    let l₁ = rw (toZ-ofZ w32 (a .length1) (s .fits .length1)) at (f .ensures (omega arith)) in
-    let l₂ = rw (toZ-ofZ w32 (a .length2) (s .fits .length2)) at (g .ensures (omega arith)) in
-    λ w. explicit-is (a .k) false (a .t1) (a .length1) (a .t3) (a .length2) (a .t1) (f .result) (a .t3) (g .result) (c .compared .result) w refl l₁ refl l₂ (c .compared .ensures w)
+    let l₁ = rw (toZ-ofZ w32 (a .length1) (s .fits .length1)) at (f .ensures) in
+    let l₂ = rw (toZ-ofZ w32 (a .length2) (s .fits .length2)) at (g .ensures) in
+    explicit-is (a .k) false (a .t1) (a .length1) (a .t3) (a .length2) (a .t1) (f .result) (a .t3) (g .result) (c .compared .result) (s .pre) refl l₁ refl l₂ (c .compared .ensures)
 
 pub explicit-spec : {M : Type 1} → statement M
 explicit-spec =

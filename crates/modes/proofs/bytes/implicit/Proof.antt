@@ -16,7 +16,7 @@ implicit-length-requires-2 c κs = search needs
 
 compared-requires : tie.Need-compared-requires
 compared-requires c κs =
-    (rw (c .before .before .before .before .implicit-length .ensures) (least-within 16 _), rw (c .before .before .implicit-length2 .ensures) (least-within 16 _))
+    (c .before .before .before .before .before .before .pre, rw (c .before .before .before .before .implicit-length .ensures) (least-within 16 _), rw (c .before .before .implicit-length2 .ensures) (least-within 16 _))
 
 returns : tie.Need-returns
 returns c =
@@ -24,7 +24,7 @@ returns c =
     let a = s .args in
     let f = c .before .before .before .before .before .implicit-length in
     let g = c .before .before .before .implicit-length2 in
-    λ w. implicit-is (a .k) false (a .t1) (a .t2) (a .t1) (f .result) (a .t2) (g .result) (c .compared .result) w refl (search needs) (f .ensures) refl (search needs) (g .ensures) (c .compared .ensures w)
+    implicit-is (a .k) false (a .t1) (a .t2) (a .t1) (f .result) (a .t2) (g .result) (c .compared .result) (s .pre) refl (search needs) (f .ensures) refl (search needs) (g .ensures) (c .compared .ensures)
 
 pub implicit-spec : {M : Type 1} → statement M
 implicit-spec =

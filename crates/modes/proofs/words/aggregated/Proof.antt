@@ -35,25 +35,25 @@ returns : tie.Need-returns
 returns c =
     let s = c .before .before .before in
     let a = s .args in
-    λ w. c .equal-any .ensures ∙ any-is (a .k) true w (a .x1 .now) (a .l1) (a .x2 .now) (a .l2) (s .pre .0) (c .before .enum-told .given .1)
+    c .equal-any .ensures ∙ any-is (a .k) true (s .pre .0) (a .x1 .now) (a .l1) (a .x2 .now) (a .l2) (s .pre .1) (c .before .enum-told .given .1)
 
 returns-2 : tie.Need-returns-2
 returns-2 c =
     let s = c .before .before .before .before .before in
     let a = s .args in
-    λ w. c .ranges .ensures ∙ ranges-is (a .k) true w (a .x1 .now) (a .l1) (a .x2 .now) (a .l2) (s .pre .0) (c .before .before .before .enum-told2 .given .1)
+    c .ranges .ensures ∙ ranges-is (a .k) true (s .pre .0) (a .x1 .now) (a .l1) (a .x2 .now) (a .l2) (s .pre .1) (c .before .before .before .enum-told2 .given .1)
 
 returns-3 : tie.Need-returns-3
 returns-3 c =
     let s = c .before .before .before in
     let a = s .args in
-    λ w. c .equal-each .ensures ∙ each-is (a .k) true w (a .x1 .now) (a .l1) (a .x2 .now) (a .l2) (s .pre .0) (c .before .enum-told3 .given .1)
+    c .equal-each .ensures ∙ each-is (a .k) true (s .pre .0) (a .x1 .now) (a .l1) (a .x2 .now) (a .l2) (s .pre .1) (c .before .enum-told3 .given .1)
 
 returns-4 : tie.Need-returns-4
 returns-4 c =
     let s = c .before .before .before in
     let a = s .args in
-    λ w. c .equal-ordered .ensures ∙ ordered-is (a .k) true w (a .x1 .now) (a .l1) (a .x2 .now) (a .l2) (s .pre .0) (c .before .enum-told4 .given .1)
+    c .equal-ordered .ensures ∙ ordered-is (a .k) true (s .pre .0) (a .x1 .now) (a .l1) (a .x2 .now) (a .l2) (s .pre .1) (c .before .enum-told4 .given .1)
 
 pub aggregated-spec : {M : Type 1} → statement M
 aggregated-spec =

@@ -3,7 +3,6 @@
 use mathlib.Core.Bool.{true}
 use Rattle.unit.proofs.Unit.{compared-is}
 use borrow.Author.Needs.{needs}
-use native.Mathlib.Omega.{arith}
 use Rattle.modes.proofs.words.compared.Statement.{statement}
 use Rattle.modes.proofs.words.compared.Tie as tie
 
@@ -17,7 +16,7 @@ returns : tie.Need-returns
 returns c =
     let s = c .before .before in
     let a = s .args in
-    λ w. compared-is (a .k) true (a .x1 .now) (a .l1) (a .x2 .now) (a .l2) (c .before .aggregated .result) (c .negated .result) w (c .before .aggregated .ensures w) (c .negated .ensures (omega arith) (s .pre .1))
+    compared-is (a .k) true (a .x1 .now) (a .l1) (a .x2 .now) (a .l2) (c .before .aggregated .result) (c .negated .result) (s .pre .0) (c .before .aggregated .ensures) (c .negated .ensures)
 
 pub compared-spec : {M : Type 1} → statement M
 compared-spec = tie.close (tie.spec aggregated-requires negated-requires returns)

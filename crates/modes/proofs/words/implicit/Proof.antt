@@ -21,7 +21,7 @@ implicit-length-requires-2 c κs = search needs
 
 compared-requires : tie.Need-compared-requires
 compared-requires c κs =
-    (rw (c .before .before .before .before .implicit-length .ensures) (least-within 8 _), rw (c .before .before .implicit-length2 .ensures) (least-within 8 _))
+    (c .before .before .before .before .before .before .before .before .pre, rw (c .before .before .before .before .implicit-length .ensures) (least-within 8 _), rw (c .before .before .implicit-length2 .ensures) (least-within 8 _))
 
 returns : tie.Need-returns
 returns c =
@@ -29,7 +29,7 @@ returns c =
     let a = s .args in
     let f = c .before .before .before .before .before .implicit-length in
     let g = c .before .before .before .implicit-length2 in
-    λ w. implicit-is (a .k) true (a .operand1) (a .operand2) (c .before .before .before .before .before .before .before .before .words-of .result) (f .result) (c .before .before .before .before .before .before .before .words-of2 .result) (g .result) (c .compared .result) w (c .before .before .before .before .before .before .before .before .words-of .ensures) (rw (c .before .before .before .before .before .before .before .before .words-of .ensures) (words-count (a .operand1))) (f .ensures) (c .before .before .before .before .before .before .before .words-of2 .ensures) (rw (c .before .before .before .before .before .before .before .words-of2 .ensures) (words-count (a .operand2))) (g .ensures) (c .compared .ensures w)
+    implicit-is (a .k) true (a .operand1) (a .operand2) (c .before .before .before .before .before .before .before .before .words-of .result) (f .result) (c .before .before .before .before .before .before .before .words-of2 .result) (g .result) (c .compared .result) (s .pre) (c .before .before .before .before .before .before .before .before .words-of .ensures) (rw (c .before .before .before .before .before .before .before .before .words-of .ensures) (words-count (a .operand1))) (f .ensures) (c .before .before .before .before .before .before .before .words-of2 .ensures) (rw (c .before .before .before .before .before .before .before .words-of2 .ensures) (words-count (a .operand2))) (g .ensures) (c .compared .ensures)
 
 pub implicit-spec : {M : Type 1} → statement M
 implicit-spec =

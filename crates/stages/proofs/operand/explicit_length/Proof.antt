@@ -5,20 +5,16 @@ use mir.Syntax.{w32}
 use mir.ValLaws.{toZ-ofZ}
 use native.Mathlib.Omega.{arith}
 use Rattle.unit.specs.Operand.{explicitLength}
+use Rattle.unit.proofs.Unit.{count-most}
 use Rattle.stages.proofs.operand.explicit_length.Statement.{statement}
 use Rattle.stages.proofs.operand.explicit_length.Tie as tie
-
-magnitude-requires : tie.Need-magnitude-requires
-magnitude-requires c κs = search needs
-
-min-requires : tie.Need-min-requires
-min-requires c κs = search needs
 
 returns : tie.Need-returns
 unfolding explicitLength
 returns c =
-    let s = c .before .before in
-    λ most. omega (arith, most, c .min .ensures, rw (toZ-ofZ w32 (s .args .length) (s .fits .length)) at (c .before .magnitude .ensures))
+    let b = c .before .before .count-of in
+    let s = c .before .before .before in
+    omega (arith, c .min .ensures, b .ensures, count-most (s .args .words), rw (toZ-ofZ w32 (s .args .length) (s .fits .length)) at (c .before .magnitude .ensures))
 
 pub explicit-length-spec : {M : Type 1} → statement M
-explicit-length-spec = tie.close (tie.spec magnitude-requires min-requires returns)
+explicit-length-spec = tie.close (tie.spec (λ c κs. search needs) (λ c κs. search needs) (λ c κs. search needs) returns)
