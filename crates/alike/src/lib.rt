@@ -1,5 +1,5 @@
-// Compares of a whole block for equality: bit j of a result belongs to element j of a block of sixteen
-// bytes or eight words.
+// Compares of a whole block for equality: bit j of a result belongs to element j of a block of
+// sixteen bytes or eight words.
 //
 // Public calls: `alike_bytes` and `alike_words` compare two blocks, `same_bytes` and `same_words` a
 // block with one element. None asks anything of its arguments.
@@ -17,8 +17,7 @@ fn bit(t: bool) -> u16
     if t { 1 } else { 0 }
 }
 
-// Four bits, lowest first. The sum is a tree on purpose: a compare of sixteen elements in this
-// shape becomes one compare of two vectors and one move of its mask.
+// Four bits, lowest first. The sum is a tree, for speed (docs/PERFORMANCE.md).
 fn four(a: bool, b: bool, c: bool, d: bool) -> u16
     ensures { λ r. ⌜ (r ≡ cond a 1 0 + 2 * cond b 1 0 + 4 * (cond c 1 0 + 2 * cond d 1 0)) × (r < 16) ⌝ }
 {

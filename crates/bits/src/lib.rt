@@ -1,7 +1,7 @@
 // Bits kept in one number: bit j of a number belongs to element j of a block.
 //
-// Public calls: `first` is the low n bits, `least` and `greatest` find a set bit; `min` is the lesser
-// of two numbers. None asks anything of its arguments.
+// Public calls: `first` is the low n bits, `least` and `greatest` find a set bit; `min` is the
+// lesser of two numbers. None asks anything of its arguments.
 ghost use mathlib.Core.Path.{_≡_};
 ghost use mathlib.Core.Bool.{cond};
 ghost use Prim.Native.Nat.{_-_, min};

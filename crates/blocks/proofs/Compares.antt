@@ -1,5 +1,5 @@
--- A compare of two parts. The unit sees operands that are zero past the part's end; by the theorem on valid elements its answer is that for the
--- parts themselves. Assumes nothing.
+-- A compare of two parts. The unit sees operands that are zero past the part's end; by the theorem
+-- on valid elements its answer is that for the parts themselves. Assumes nothing.
 use Prim.Native.Nat.{ℕ, _+_, _*_, _-_, _/_, _%_, _≤_, _<_}
 use mathlib.Core.Path.{_≡_, ap, _∙_}
 use mathlib.Core.Bool.{Bool, true, false, cond, not}
@@ -17,7 +17,7 @@ use Rattle.unit.specs.Operand.{count, elements, wordAt, wordsOf, explicitLength
 use Rattle.unit.specs.Compare.{operands, boolRes, intRes1, intRes2}
 use Rattle.unit.specs.Output.{indexOf}
 use Rattle.unit.specs.Calls.{explicit, PCMPESTRI}
-use Rattle.unit.specs.Parts.{eachOf}
+use Rattle.unit.specs.Modes.{eachOf}
 use Rattle.unit.proofs.ValidElements.{bits-same}
 use Rattle.blocks.specs.Blocks.{operandOf, compareIndex, eachNegated}
 

@@ -1,4 +1,5 @@
--- How a loop fills an operand over zeros: after k stores its first k bytes are there, and past a part's end every byte is zero. Assumes nothing.
+-- How a loop fills an operand over zeros: after k stores its first k bytes are there, and past a
+-- part's end every byte is zero. Assumes nothing.
 use Prim.Native.Nat.{ℕ, zero, suc, _+_, _*_, _/_, _%_, _≤_, _<_, min}
 use mathlib.Core.Path.{_≡_, refl, sym, ap, _∙_}
 use mathlib.Core.Bool.{Bool, true, false, cond}

@@ -1,6 +1,7 @@
--- A text and its parts, as the unit takes them. `words` is the width: bytes where it is false, words where it is true.
+-- A text and its parts, as the unit takes them. `words` is the width, `inBytes` or
+-- `inWords`.
 use Prim.Native.Nat.{ℕ, zero, suc, _+_, _/_, _%_}
-use mathlib.Core.Bool.{Bool, true, false, cond}
+use mathlib.Core.Bool.{Bool, cond}
 use mathlib.Core.List.{List}
 use lib.Dec.{eqb}
 use lib.ListN.{length, getD, set}
@@ -16,8 +17,8 @@ longestText = 1048576
 
 -- byte i of the operand: the part's elements, a word's low byte first, and zero past the part's end
 abbrev pub operandByte : Bool → List ℕ → ℕ → ℕ
-operandByte false x i = getD x i 0
-operandByte true x i = cond (eqb (i % 2) 0) (getD x (i / 2) 0 % 256) (getD x (i / 2) 0 / 256)
+operandByte words x i =
+    cond words (cond (eqb (i % 2) 0) (getD x (i / 2) 0 % 256) (getD x (i / 2) 0 / 256)) (getD x i 0)
 
 unfoldable pub operandOf : Bool → List ℕ → List ℕ
 operandOf words x = tabulate 16 (operandByte words x)
@@ -29,7 +30,8 @@ stores f (suc k) bytes = set (stores f k bytes) k (f k)
 
 -- ---- one compare
 
--- A compare is a call of the unit: the index that it answers for two parts, each at its own length. c is the control in bytes.
+-- A compare is a call of the unit: the index that it answers for two parts, each at its own length.
+-- c is the control in bytes.
 unfoldable pub compareIndex : Bool → ℕ → List ℕ → List ℕ → ℕ
 compareIndex words c x y = PCMPESTRI (operandOf words x) (pos (length x)) (operandOf words y) (pos (length y)) (c + cond words 1 0) .index
 

@@ -1,4 +1,5 @@
--- Laws of what crosses to C: a call with refusal 0 writes, and any other leaves what stood there. Assumes nothing.
+-- Laws of what crosses to C: a call with refusal 0 writes, and any other leaves what stood there.
+-- Assumes nothing.
 use Prim.Native.Nat.{ℕ, _+_}
 use mathlib.Core.Path.{_≡_, refl, sym, ap, subst, _∙_}
 use mathlib.Core.Bool.{Bool, true, false, cond, _&&_}

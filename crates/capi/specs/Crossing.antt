@@ -1,5 +1,5 @@
--- What crosses to C: a cursor as three numbers, the flags as one, an answer as a status and what is written through the caller's pointers. A refused call
--- writes nothing.
+-- What crosses to C: a cursor as three numbers, the flags as one, an answer as a status and what is
+-- written through the caller's pointers. A refused call writes nothing.
 use Prim.Native.Nat.{ℕ, _+_}
 use mathlib.Core.Path.{_≡_}
 use mathlib.Core.Bool.{Bool, cond, not}
@@ -18,7 +18,8 @@ use Rattle.search.specs.Calls.{Said, found, absent, refused, said, cursorOf as 
 use Rattle.report.specs.Report.{linesOf, refusalOf as reportRefusal}
 use Rattle.orders.specs.declared.OrderAnswer.{OrderAnswer}
 
--- what stands behind a pointer after a call with this refusal: 0 writes the new value, and any other number leaves the old one
+-- what stands behind a pointer after a call with this refusal: 0 writes the new value, and any
+-- other number leaves the old one
 abbrev pub unlessRefused : {A : Type 0} → ℕ → A → A → A
 unlessRefused number new old = cond (eqb number 0) new old
 
@@ -28,12 +29,14 @@ truth n = not (eqb n 0)
 
 -- ---- the unit
 
--- the flags in the places that they have in the register EFLAGS: CF is bit 0, PF 2, AF 4, ZF 6, SF 7, OF 11
+-- the flags in the places that they have in the register EFLAGS: CF is bit 0, PF 2, AF 4, ZF 6, SF
+-- 7, OF 11
 unfoldable pub eflags : Flags → ℕ
 eflags f =
     cond (f .carry) 1 0 + cond (f .parity) 4 0 + cond (f .auxiliary) 16 0 + cond (f .zero) 64 0 + cond (f .sign) 128 0 + cond (f .overflow) 2048 0
 
--- an index call: its answer, index and flags before the call, what it returns, index and flags after it
+-- an index call: its answer, index and flags before the call, what it returns, index and flags
+-- after it
 pub record IndexGiven (a : IndexAnswer) (index flags r index' flags' : ℕ) : Type 0 where
   pub number : r ≡ a .refusal
   pub index-after : index' ≡ unlessRefused (a .refusal) (a .index) index
@@ -55,15 +58,15 @@ numbersOf c = c .position ∷ c .compares ∷ cond (c .exhausted) 1 0 ∷ []
 abbrev pub cursorOf : List ℕ → Cursor
 cursorOf ns = cursorAt (getD ns 0 0) (getD ns 1 0) (truth (getD ns 2 0))
 
--- what a call returns: 0 for a match, 256 for absent, which is above every refusal's number, or that
--- number
+-- what a call returns: 0 for a match, 256 for absent, which is above every refusal's number, or
+-- that number
 abbrev pub statusOf : Said → ℕ
 statusOf (found p) = 0
 statusOf absent = 256
 statusOf (refused number) = number
 
--- the three numbers after a call: those of the cursor to go on with, or what stood there where it was
--- refused
+-- the three numbers after a call: those of the cursor to go on with, or what stood there where it
+-- was refused
 abbrev pub cursorAfter : Said → Cursor → List ℕ → List ℕ
 cursorAfter (found p) c ns = numbersOf c
 cursorAfter absent c ns = numbersOf c
@@ -84,7 +87,8 @@ pub record NextGiven (a : Next) (cursor : List ℕ) (position r : ℕ) (cursor' 
 
 -- ---- runs and orders
 
--- a call that tells one number, as the length of a run or which text is the smaller: its refusal, the number told, what stood there before; what it returns, what stands there after it
+-- a call that tells one number, as the length of a run or which text is the smaller: its refusal,
+-- the number told, what stood there before; what it returns, what stands there after it
 pub record NumberGiven (number told old r new : ℕ) : Type 0 where
   pub refusal : r ≡ number
   pub told-after : new ≡ unlessRefused number told old
@@ -94,15 +98,16 @@ pub record OrderGiven (a : OrderAnswer) (old : ℤ) (r : ℕ) (new : ℤ) : Type
   pub refusal : r ≡ a .refusal
   pub order-after : new ≡ unlessRefused (a .refusal) (a .order) old
 
--- Which text is the smaller, from their order: 0 the first, 1 the second. It is for a private function; the public contracts name `isSecond`.
+-- Which text is the smaller, from their order: 0 the first, 1 the second. It is for a private
+-- function; the public contracts name `isSecond`.
 pub record LesserGiven (a : OrderAnswer) (old r new : ℕ) : Type 0 where
   pub refusal : r ≡ a .refusal
   pub which-after : new ≡ unlessRefused (a .refusal) (cond (ltZ (pos 0) (a .order)) 1 0) old
 
 -- ---- the report
 
--- the report: its input, the page and the number that stood behind the pointer before the call; what it
--- returns, the page and that number after it
+-- the report: its input, the page and the number that stood behind the pointer before the call;
+-- what it returns, the page and that number after it
 pub record ReportGiven (input page : List ℕ) (old r : ℕ) (page' : List ℕ) (new : ℕ) : Type 0 where
   pub written-after : NumberGiven (reportRefusal input) (length (linesOf input)) old r new
   pub page-after : page' ≡ linesOf input ++ drop (length (linesOf input)) page

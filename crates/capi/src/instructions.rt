@@ -140,7 +140,7 @@ pub extern "C" fn hx_pcmpestri_0c(
     operand2: &[u8; 16],
     length2: usize,
 ) -> u32
-    ensures { λ r. ⌜ r ≡ PCMPESTRI (now (operand1 .entry)) (pos length1) (now (operand2 .entry)) (pos length2) 12 .index ⌝ }
+    ensures { λ r. ⌜ r ≡ PCMPESTRI (now (operand1 .entry)) (pos length1) (now (operand2 .entry)) (pos length2) 0x0C .index ⌝ }
 {
     pcmpstr::pcmpestri_0c(*operand1, length1, *operand2, length2)
 }
@@ -153,7 +153,7 @@ pub extern "C" fn hx_pcmpestri_0d(
     operand2: &[u8; 16],
     length2: usize,
 ) -> u32
-    ensures { λ r. ⌜ r ≡ PCMPESTRI (now (operand1 .entry)) (pos length1) (now (operand2 .entry)) (pos length2) 13 .index ⌝ }
+    ensures { λ r. ⌜ r ≡ PCMPESTRI (now (operand1 .entry)) (pos length1) (now (operand2 .entry)) (pos length2) 0x0D .index ⌝ }
 {
     pcmpstr::pcmpestri_0d(*operand1, length1, *operand2, length2)
 }
@@ -166,7 +166,7 @@ pub extern "C" fn hx_pcmpestri_18(
     operand2: &[u8; 16],
     length2: usize,
 ) -> u32
-    ensures { λ r. ⌜ r ≡ PCMPESTRI (now (operand1 .entry)) (pos length1) (now (operand2 .entry)) (pos length2) 24 .index ⌝ }
+    ensures { λ r. ⌜ r ≡ PCMPESTRI (now (operand1 .entry)) (pos length1) (now (operand2 .entry)) (pos length2) 0x18 .index ⌝ }
 {
     pcmpstr::pcmpestri_18(*operand1, length1, *operand2, length2)
 }
@@ -179,7 +179,7 @@ pub extern "C" fn hx_pcmpestri_19(
     operand2: &[u8; 16],
     length2: usize,
 ) -> u32
-    ensures { λ r. ⌜ r ≡ PCMPESTRI (now (operand1 .entry)) (pos length1) (now (operand2 .entry)) (pos length2) 25 .index ⌝ }
+    ensures { λ r. ⌜ r ≡ PCMPESTRI (now (operand1 .entry)) (pos length1) (now (operand2 .entry)) (pos length2) 0x19 .index ⌝ }
 {
     pcmpstr::pcmpestri_19(*operand1, length1, *operand2, length2)
 }

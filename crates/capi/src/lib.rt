@@ -1,7 +1,10 @@
-// The C interface: every public call of the libraries under a name that begins with `hx_`, for C and Rust to link (include/hirtxonda.h).
+// The C interface: the calls of `pcmpstr`, `search`, `spans`, `orders`, `decimal` and `report`
+// under names that begin with `hx_`, for C and Rust to link (include/hirtxonda.h).
 //
-// A call returns the number of a refusal, or 0, and writes its results through the caller's pointers; a refused call writes nothing. Operands and masks are
-// sixteen bytes behind a pointer, texts a pointer and a length. What crosses is defined in specs/Crossing.antt. This file has what several calls share.
+// A call that may be refused returns 0, or the number that refuses it; a search returns 256 for
+// absent. Its results it writes through the caller's pointers, and refused it writes nothing.
+// Operands and masks are sixteen bytes behind a pointer, texts a pointer and a length. What crosses
+// is defined in specs/Crossing.antt. This file has what several calls share.
 mod columns;
 mod instructions;
 mod order;

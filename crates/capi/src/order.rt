@@ -5,8 +5,9 @@ use crate::weighed;
 use orders::OrderAnswer;
 use orders::bytes;
 use orders::words;
-ghost use mathlib.Core.Bool.{cond, false, true};
+ghost use mathlib.Core.Bool.{cond};
 ghost use lib.ListN.{length};
+ghost use Rattle.unit.specs.Operand.{inBytes, inWords};
 ghost use Rattle.orders.specs.Orders.{isSecond, orderAnswer, orderRefusal};
 ghost use Rattle.capi.specs.Crossing.{LesserGiven, NumberGiven, OrderGiven, truth};
 
@@ -39,7 +40,7 @@ pub extern "C" fn hx_compare_in_bytes(
     signed: u32,
     order: &mut i32,
 ) -> u32
-    ensures { λ r. ⌜ OrderGiven (orderAnswer false (truth signed) (now (first .entry)) (now (second .entry))) (now (order .entry)) r (now (order .exit)) ⌝ }
+    ensures { λ r. ⌜ OrderGiven (orderAnswer inBytes (truth signed) (now (first .entry)) (now (second .entry))) (now (order .entry)) r (now (order .exit)) ⌝ }
 {
     give_order(bytes::compare(first, second, truth(signed)), order)
 }
@@ -52,7 +53,7 @@ pub extern "C" fn hx_compare_in_words(
     signed: u32,
     order: &mut i32,
 ) -> u32
-    ensures { λ r. ⌜ OrderGiven (orderAnswer true (truth signed) (now (first .entry)) (now (second .entry))) (now (order .entry)) r (now (order .exit)) ⌝ }
+    ensures { λ r. ⌜ OrderGiven (orderAnswer inWords (truth signed) (now (first .entry)) (now (second .entry))) (now (order .entry)) r (now (order .exit)) ⌝ }
 {
     give_order(words::compare(first, second, truth(signed)), order)
 }
@@ -65,7 +66,7 @@ pub extern "C" fn hx_lesser_in_bytes(
     signed: u32,
     which: &mut u32,
 ) -> u32
-    ensures { λ r. ⌜ NumberGiven (orderRefusal (length (now (first .entry))) (length (now (second .entry)))) (cond (isSecond false (truth signed) (now (first .entry)) (now (second .entry))) 1 0) (now (which .entry)) r (now (which .exit)) ⌝ }
+    ensures { λ r. ⌜ NumberGiven (orderRefusal (length (now (first .entry))) (length (now (second .entry)))) (cond (isSecond inBytes (truth signed) (now (first .entry)) (now (second .entry))) 1 0) (now (which .entry)) r (now (which .exit)) ⌝ }
 {
     give_lesser(bytes::compare(first, second, truth(signed)), which)
 }
@@ -78,7 +79,7 @@ pub extern "C" fn hx_lesser_in_words(
     signed: u32,
     which: &mut u32,
 ) -> u32
-    ensures { λ r. ⌜ NumberGiven (orderRefusal (length (now (first .entry))) (length (now (second .entry)))) (cond (isSecond true (truth signed) (now (first .entry)) (now (second .entry))) 1 0) (now (which .entry)) r (now (which .exit)) ⌝ }
+    ensures { λ r. ⌜ NumberGiven (orderRefusal (length (now (first .entry))) (length (now (second .entry)))) (cond (isSecond inWords (truth signed) (now (first .entry)) (now (second .entry))) 1 0) (now (which .entry)) r (now (which .exit)) ⌝ }
 {
     give_lesser(words::compare(first, second, truth(signed)), which)
 }

@@ -3,7 +3,7 @@ use crate::weighed;
 use search::Cursor;
 use search::Next;
 ghost use mathlib.Core.Path.{_≡_};
-ghost use mathlib.Core.Bool.{false, true};
+ghost use Rattle.unit.specs.Operand.{inBytes, inWords};
 ghost use Rattle.search.specs.Cursors.{freshCursor, nextMatch};
 ghost use Rattle.capi.specs.Crossing.{cursorOf, NextGiven, numbersOf};
 
@@ -66,7 +66,7 @@ pub extern "C" fn hx_next_in_bytes(
     needle: &[u8],
     position: &mut u64,
 ) -> u32
-    ensures { λ r. ⌜ NextGiven (nextMatch false (now (text .entry)) (now (needle .entry)) (cursorOf (now (cursor .entry)))) (now (cursor .entry)) (now (position .entry)) r (now (cursor .exit)) (now (position .exit)) ⌝ }
+    ensures { λ r. ⌜ NextGiven (nextMatch inBytes (now (text .entry)) (now (needle .entry)) (cursorOf (now (cursor .entry)))) (now (cursor .entry)) (now (position .entry)) r (now (cursor .exit)) (now (position .exit)) ⌝ }
 {
     let next = cursor_of(*cursor).next_in_bytes(text, needle);
     give_next(next, cursor, position)
@@ -80,7 +80,7 @@ pub extern "C" fn hx_next_in_words(
     needle: &[u16],
     position: &mut u64,
 ) -> u32
-    ensures { λ r. ⌜ NextGiven (nextMatch true (now (text .entry)) (now (needle .entry)) (cursorOf (now (cursor .entry)))) (now (cursor .entry)) (now (position .entry)) r (now (cursor .exit)) (now (position .exit)) ⌝ }
+    ensures { λ r. ⌜ NextGiven (nextMatch inWords (now (text .entry)) (now (needle .entry)) (cursorOf (now (cursor .entry)))) (now (cursor .entry)) (now (position .entry)) r (now (cursor .exit)) (now (position .exit)) ⌝ }
 {
     let next = cursor_of(*cursor).next_in_words(text, needle);
     give_next(next, cursor, position)

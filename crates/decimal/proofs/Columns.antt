@@ -1,4 +1,5 @@
--- The laws of a refusal, a column and a written buffer. A caller that knows `n < 10 ^ w` uses `accepts`, `writes` or `fills`, and `length-column`. Assumes nothing.
+-- The laws of a refusal, a column and a written buffer. A caller that knows `n < 10 ^ w` uses
+-- `accepts`, `writes` or `fills`, and `length-column`. Assumes nothing.
 use Prim.Native.Nat.{ℕ, _^_, _≤_, _<_}
 use mathlib.Core.Path.{_≡_, refl, sym, ap, _∙_}
 use mathlib.Core.Bool.{Bool, true, false, _||_}

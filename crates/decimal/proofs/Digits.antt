@@ -1,6 +1,6 @@
--- The laws of `digits`. Three of them fix it: `digits-numeral` (the digits of n are a numeral: one digit or more, each a byte from 48 to 57, no leading zero but in 0
--- itself), `value-digits` (read back they are n), and `digits-value` (no other numeral stands for n). `fits-width` and `fits-not` compare the number of digits with
--- powers of ten. Assumes nothing.
+-- The laws of `digits`. Three of them fix it: `digits-numeral` (the digits of n are a numeral),
+-- `value-digits` (read back they are n), `digits-value` (no other numeral stands for n).
+-- `fits-width` and `fits-not` compare the number of digits with powers of ten. Assumes nothing.
 use Prim.Native.Nat.{ℕ, zero, suc, _+_, _-_, _*_, _/_, _%_, _^_, _≤_, _<_}
 use mathlib.Core.Path.{_≡_, refl}
 use mathlib.Core.Logic.{by-cases}

@@ -1,6 +1,8 @@
-// The column writer: a number in decimal, right-justified with spaces in a width, at the front of the caller's buffer.
+// The column writer: a number in decimal, right-justified with spaces in a width, at the front of
+// the caller's buffer.
 //
-// Public call: `right_justified`. It asks nothing of its arguments, and answers 0, or the number by which it refuses them.
+// Public call: `right_justified`. It asks nothing of its arguments, and answers 0, or the number by
+// which it refuses them.
 ghost use Prim.Native.Nat.{_+_, _-_, _≤_, _<_};
 ghost use mathlib.Core.Path.{_≡_};
 ghost use mathlib.Core.List.{_++_};
@@ -19,7 +21,8 @@ pub const WIDEST: usize = 20;
 // The digits of the largest number, 18446744073709551615.
 const MOST_DIGITS: usize = 20;
 
-// How many digits a number has. Powers of ten are compared, so that only the writing divides. At the loop's test `power` is 10^(count - 1).
+// How many digits a number has. Powers of ten are compared, so that only the writing divides. At
+// the loop's test `power` is 10^(count - 1).
 fn digit_count(number: u64) -> usize
     ensures { λ r. ⌜ r ≡ length (digits number) ⌝ }
 {
@@ -85,8 +88,8 @@ fn put_digits(number: u64, end: usize, buffer: &mut [u8])
     buffer[at - 1] = digit(rest);
 }
 
-// Writes a number, right-justified with spaces, into the first `width` bytes of the buffer; the bytes after them stay. It answers 0. Refused, it writes
-// nothing and answers the refusal's number.
+// Writes a number, right-justified with spaces, into the first `width` bytes of the buffer; the
+// bytes after them stay. It answers 0. Refused, it writes nothing and answers the refusal's number.
 pub fn right_justified(number: u64, width: usize, buffer: &mut [u8]) -> u32
     ensures { λ r. ⌜ RightJustified number width (now (buffer .entry)) (now (buffer .exit)) r ⌝ }
 {

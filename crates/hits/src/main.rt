@@ -1,11 +1,14 @@
-// The program `hits`: it reads a needle, a line feed and a text from standard input, and prints where the needle stands in the text (document 01, "The program `hits`").
+// The program `hits`: it reads a needle, a line feed and a text from standard input, and prints
+// where the needle stands in the text (document 01, "The program `hits`").
 //
-// All that it prints is defined and proved in the crate `report`. This program reads, calls it, and writes.
+// All that it prints is defined and proved in the crate `report`. This program reads, calls it, and
+// writes.
 use libc::STDIN_FILENO;
 use libc::STDOUT_FILENO;
 ghost use Rattle.hits.specs.Reads.{Within};
 
-// One byte more than the longest input: a longer one is seen to be too long, and need not be read to its end.
+// One byte more than the longest input: a longer one is seen to be too long, and need not be read
+// to its end.
 const ROOM: usize = 65537;
 
 // What reading came to: how many bytes, or a read that failed.

@@ -6,17 +6,18 @@ use unit::Aggregation;
 use unit::Compared;
 use unit::Control;
 ghost use mathlib.Core.Path.{_≡_};
-ghost use mathlib.Core.Bool.{cond, false, not, _&&_};
+ghost use mathlib.Core.Bool.{cond, not, _&&_};
 ghost use Prim.Native.Nat.{_≤_};
 ghost use lib.Dec.{eqb, ltb};
 ghost use lib.ListN.{getD};
 ghost use lib.IntN.{pos};
 ghost use lib.Bits.{bitOr};
 ghost use Rattle.bits.specs.Bits.{leastBelow, numberOf, tabulate};
-ghost use Rattle.unit.specs.Operand.{valueOf};
+ghost use Rattle.unit.specs.Operand.{inBytes, valueOf};
 ghost use Rattle.unit.specs.Compare.{operands, intRes1};
 ghost use Rattle.unit.specs.Calls.{explicit, implicit, PCMPESTRI};
-ghost use Rattle.unit.specs.Parts.{anyOf, between, comparedOf, eachOf, orderedOf, rangesOf};
+ghost use Rattle.unit.specs.Modes.{anyOf, between, eachOf, orderedOf, rangesOf};
+ghost use Rattle.unit.specs.Readings.{comparedOf};
 
 // The index of the first zero byte, or 16.
 fn implicit_length(x: &[u8; 16]) -> usize
@@ -53,7 +54,7 @@ fn equal_any(x1: &[u8; 16], l1: usize, x2: &[u8; 16], l2: usize) -> u32
 
 // The number that a byte stands for, in two's complement where signed.
 pub fn value(signed: bool, x: u8) -> i16
-    ensures { λ r. ⌜ r ≡ valueOf false signed x ⌝ }
+    ensures { λ r. ⌜ r ≡ valueOf inBytes signed x ⌝ }
 {
     if signed {
         if x < 128 { x as i16 } else { (x as i16) - 256 }
@@ -71,7 +72,7 @@ fn mark(low: bool, high: bool) -> u8
 
 // The row with 255 set too where an element of x lies from low to high.
 fn within(signed: bool, x: [u8; 16], low: u8, high: u8, row: [u8; 16]) -> [u8; 16]
-    ensures { λ r. ⌜ r ≡ tabulate 16 (λ j. bitOr (getD row j 0) (cond (between (valueOf false signed) low high (getD x j 0)) 255 0)) ⌝ }
+    ensures { λ r. ⌜ r ≡ tabulate 16 (λ j. bitOr (getD row j 0) (cond (between (valueOf inBytes signed) low high (getD x j 0)) 255 0)) ⌝ }
 {
     let least = value(signed, low);
     let most = value(signed, high);
@@ -89,7 +90,7 @@ fn within(signed: bool, x: [u8; 16], low: u8, high: u8, row: [u8; 16]) -> [u8; 1
 // bound.
 fn ranges(signed: bool, x1: [u8; 16], n: usize, x2: [u8; 16], l2: usize) -> u32
     requires { ⌜ (n ≤ 8) × (l2 ≤ 16) ⌝ }
-    ensures { λ r. ⌜ r ≡ numberOf 16 (rangesOf (valueOf false signed) x1 n x2 l2) ⌝ }
+    ensures { λ r. ⌜ r ≡ numberOf 16 (rangesOf (valueOf inBytes signed) x1 n x2 l2) ⌝ }
 {
     let mut row = [0u8; 16];
     let mut i = 0;
@@ -126,25 +127,22 @@ fn differ(x1: &[u8; 16], l1: usize, x2: &[u8; 16], l2: usize) -> u32
     ((same & v1 & v2) | ((v1 | v2) ^ 0xffff)) ^ 0xffff
 }
 
-// Bit j: the valid elements of x1 stand in x2 from j on, as far as its sixteen go. `valid` has the
-// bits of the valid elements of x2: the caller makes it, so that it is a constant where a block is
-// whole. After i elements, bit j + i of `left` tells of j. Past the block nothing is compared, so
-// every bit from 16 on counts as equal. It stops once nothing is left, or nothing below bit 16,
-// since what stands past it can no longer fall. It never stops after the first element: bit 30 is a
-// mark that the first turn shifts to bit 31, where both tests see it, and the second shifts out.
-// Whether a block holds the first element is hard to foretell, and a branch foretold wrongly costs
-// more than a compare.
+// Bit j: the valid elements of x1 stand in x2 from j on, as far as its sixteen go. After i of them
+// bit j + i of `left` tells of j, and `valid` has the bits of the valid elements of x2.
 fn equal_ordered(x1: &[u8; 16], l1: usize, x2: &[u8; 16], l2: usize, valid: u32) -> u32
     requires { ⌜ (l1 ≤ 16) × (l2 ≤ 16) × (valid ≡ numberOf 16 (λ j. ltb j l2)) ⌝ }
     ensures { λ r. ⌜ r ≡ numberOf 16 (orderedOf 16 (now (x1 .entry)) l1 (now (x2 .entry)) l2) ⌝ }
 {
+    // bit 30 is a mark that keeps both tests from ending the first turn (docs/PERFORMANCE.md)
     let mut left = 0x4000ffffu32;
     let mut i = 0;
     while i < l1 {
+        // past the block nothing is compared: every bit from 16 on counts as equal
         left = (left & ((alike::same_bytes(x2, x1[i]) & valid) | 0xffff0000)) << 1;
         if left == 0 {
             return 0;
         }
+        // what is left lies past the block, where it can no longer fall
         if left & 0x8000ffff == 0 {
             return (left >> (i as u32 + 1)) & 0xffff;
         }
@@ -155,7 +153,7 @@ fn equal_ordered(x1: &[u8; 16], l1: usize, x2: &[u8; 16], l2: usize, valid: u32)
 
 // IntRes1.
 fn aggregated(k: Control, x1: &[u8; 16], l1: usize, x2: &[u8; 16], l2: usize) -> u32
-    requires { ⌜ (k .words ≡ false) × (l1 ≤ 16) × (l2 ≤ 16) ⌝ }
+    requires { ⌜ (k .words ≡ inBytes) × (l1 ≤ 16) × (l2 ≤ 16) ⌝ }
     ensures { λ r. ⌜ r ≡ numberOf 16 (intRes1 (operands k (now (x1 .entry)) l1 (now (x2 .entry)) l2)) ⌝ }
 {
     let a = k.aggregation;
@@ -169,7 +167,7 @@ fn aggregated(k: Control, x1: &[u8; 16], l1: usize, x2: &[u8; 16], l2: usize) ->
 
 // IntRes2, with the effective lengths.
 fn compared(k: Control, x1: &[u8; 16], l1: usize, x2: &[u8; 16], l2: usize) -> Compared
-    requires { ⌜ (k .words ≡ false) × (l1 ≤ 16) × (l2 ≤ 16) ⌝ }
+    requires { ⌜ (k .words ≡ inBytes) × (l1 ≤ 16) × (l2 ≤ 16) ⌝ }
     ensures { λ r. ⌜ r ≡ comparedOf (operands k (now (x1 .entry)) l1 (now (x2 .entry)) l2) ⌝ }
 {
     let p = k.polarity;
@@ -189,7 +187,7 @@ pub(crate) fn explicit(
     length2: i32,
     k: Control,
 ) -> Compared
-    requires { ⌜ k .words ≡ false ⌝ }
+    requires { ⌜ k .words ≡ inBytes ⌝ }
     ensures { λ r. ⌜ r ≡ comparedOf (explicit operand1 length1 operand2 length2 k) ⌝ }
 {
     let l1 = operand::explicit_length(false, length1);
@@ -199,7 +197,7 @@ pub(crate) fn explicit(
 
 // What an implicit call compares.
 pub(crate) fn implicit(operand1: [u8; 16], operand2: [u8; 16], k: Control) -> Compared
-    requires { ⌜ k .words ≡ false ⌝ }
+    requires { ⌜ k .words ≡ inBytes ⌝ }
     ensures { λ r. ⌜ r ≡ comparedOf (implicit operand1 operand2 k) ⌝ }
 {
     let l1 = implicit_length(&operand1);
@@ -209,7 +207,7 @@ pub(crate) fn implicit(operand1: [u8; 16], operand2: [u8; 16], k: Control) -> Co
 
 // The index of `pcmpestri` at control 0Ch: where operand 1 first stands in operand 2.
 pub fn index_0c(operand1: [u8; 16], length1: usize, operand2: [u8; 16], length2: usize) -> u32
-    ensures { λ r. ⌜ r ≡ PCMPESTRI operand1 (pos length1) operand2 (pos length2) 12 .index ⌝ }
+    ensures { λ r. ⌜ r ≡ PCMPESTRI operand1 (pos length1) operand2 (pos length2) 0x0C .index ⌝ }
 {
     let l1 = bits::min(16, length1);
     let l2 = bits::min(16, length2);
@@ -219,7 +217,7 @@ pub fn index_0c(operand1: [u8; 16], length1: usize, operand2: [u8; 16], length2:
 
 // The index of `pcmpestri` at control 18h: where the operands first differ.
 pub fn index_18(operand1: [u8; 16], length1: usize, operand2: [u8; 16], length2: usize) -> u32
-    ensures { λ r. ⌜ r ≡ PCMPESTRI operand1 (pos length1) operand2 (pos length2) 24 .index ⌝ }
+    ensures { λ r. ⌜ r ≡ PCMPESTRI operand1 (pos length1) operand2 (pos length2) 0x18 .index ⌝ }
 {
     let l1 = bits::min(16, length1);
     let l2 = bits::min(16, length2);

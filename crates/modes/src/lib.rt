@@ -2,8 +2,9 @@
 // its calls read off (crate `unit`, specs/Compare.antt).
 //
 // Public calls: `explicit` and `implicit`, for every control; for searches, in the module of each
-// width, the index of `pcmpestri` at one control: `bytes::index_0c` and `index_18`, `words::index_0d`
-// and `index_19`; and `value`, what an element stands for. None asks anything of its arguments.
+// width, the index of `pcmpestri` at one control: `bytes::index_0c` and `index_18`,
+// `words::index_0d` and `index_19`; and `value`, what an element stands for. None asks anything of
+// its arguments.
 pub mod bytes;
 pub mod words;
 
@@ -11,7 +12,7 @@ use unit::Compared;
 use unit::Control;
 ghost use mathlib.Core.Path.{_≡_};
 ghost use Rattle.unit.specs.Calls.{explicit, implicit};
-ghost use Rattle.unit.specs.Parts.{comparedOf};
+ghost use Rattle.unit.specs.Readings.{comparedOf};
 
 // What an explicit call compares.
 pub fn explicit(

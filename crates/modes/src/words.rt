@@ -6,17 +6,18 @@ use unit::Aggregation;
 use unit::Compared;
 use unit::Control;
 ghost use mathlib.Core.Path.{_≡_};
-ghost use mathlib.Core.Bool.{cond, true, not, _&&_};
+ghost use mathlib.Core.Bool.{cond, not, _&&_};
 ghost use Prim.Native.Nat.{_≤_};
 ghost use lib.Dec.{eqb};
 ghost use lib.ListN.{getD};
 ghost use lib.IntN.{pos};
 ghost use lib.Bits.{bitOr};
 ghost use Rattle.bits.specs.Bits.{leastBelow, numberOf, tabulate};
-ghost use Rattle.unit.specs.Operand.{valueOf};
+ghost use Rattle.unit.specs.Operand.{inWords, valueOf};
 ghost use Rattle.unit.specs.Compare.{operands, intRes1};
 ghost use Rattle.unit.specs.Calls.{explicit, implicit, PCMPESTRI};
-ghost use Rattle.unit.specs.Parts.{anyOf, between, comparedOf, eachOf, orderedOf, rangesOf};
+ghost use Rattle.unit.specs.Modes.{anyOf, between, eachOf, orderedOf, rangesOf};
+ghost use Rattle.unit.specs.Readings.{comparedOf};
 
 // The index of the first zero word, or 8.
 fn implicit_length(x: &[u16; 8]) -> usize
@@ -53,7 +54,7 @@ fn equal_any(x1: &[u16; 8], l1: usize, x2: &[u16; 8], l2: usize) -> u32
 
 // The number that a word stands for, in two's complement where signed.
 pub fn value(signed: bool, x: u16) -> i32
-    ensures { λ r. ⌜ r ≡ valueOf true signed x ⌝ }
+    ensures { λ r. ⌜ r ≡ valueOf inWords signed x ⌝ }
 {
     if signed {
         if x < 32768 {
@@ -75,7 +76,7 @@ fn mark(low: bool, high: bool) -> u16
 
 // The row with 65535 set too where an element of x lies from low to high.
 fn within(signed: bool, x: [u16; 8], low: u16, high: u16, row: [u16; 8]) -> [u16; 8]
-    ensures { λ r. ⌜ r ≡ tabulate 8 (λ j. bitOr (getD row j 0) (cond (between (valueOf true signed) low high (getD x j 0)) 65535 0)) ⌝ }
+    ensures { λ r. ⌜ r ≡ tabulate 8 (λ j. bitOr (getD row j 0) (cond (between (valueOf inWords signed) low high (getD x j 0)) 65535 0)) ⌝ }
 {
     let least = value(signed, low);
     let most = value(signed, high);
@@ -93,7 +94,7 @@ fn within(signed: bool, x: [u16; 8], low: u16, high: u16, row: [u16; 8]) -> [u16
 // bound.
 fn ranges(signed: bool, x1: [u16; 8], n: usize, x2: [u16; 8], l2: usize) -> u32
     requires { ⌜ (n ≤ 4) × (l2 ≤ 8) ⌝ }
-    ensures { λ r. ⌜ r ≡ numberOf 8 (rangesOf (valueOf true signed) x1 n x2 l2) ⌝ }
+    ensures { λ r. ⌜ r ≡ numberOf 8 (rangesOf (valueOf inWords signed) x1 n x2 l2) ⌝ }
 {
     let mut row = [0u16; 8];
     let mut i = 0;
@@ -115,8 +116,7 @@ fn equal_each(x1: &[u16; 8], l1: usize, x2: &[u16; 8], l2: usize) -> u32
     (alike::alike_words(x2, x1) & v1 & v2) | ((v1 | v2) ^ 0xff)
 }
 
-// Where two parts of one length first differ, or 8. Word by word: the compiler makes no mask of a
-// compare of eight words.
+// Where two parts of one length first differ, or 8. Word by word, for speed (docs/PERFORMANCE.md).
 fn same_length_differ_at(x1: &[u16; 8], x2: &[u16; 8], l: usize) -> u32
     requires { ⌜ l ≤ 8 ⌝ }
     ensures { λ r. ⌜ r ≡ leastBelow 8 (λ j. not (eachOf (now (x1 .entry)) l (now (x2 .entry)) l j)) ⌝ }
@@ -143,10 +143,8 @@ fn differ_at(x1: &[u16; 8], l1: usize, x2: &[u16; 8], l2: usize) -> u32
     bits::least(equal_each(x1, l1, x2, l2) ^ 0xff, 8)
 }
 
-// Bit j: the valid elements of x1 stand in x2 from j on, as far as its eight go. It stops once they
-// stand nowhere, which it asks from the second element on: whether a block holds the first one is
-// hard to foretell, and a branch foretold wrongly costs more than a compare. `(i + 15) / 16` is 0
-// at the first element and 1 after it.
+// Bit j: the valid elements of x1 stand in x2 from j on, as far as its eight go. After i of them
+// bit j of `left` tells of j.
 fn equal_ordered(x1: &[u16; 8], l1: usize, x2: &[u16; 8], l2: usize) -> u32
     requires { ⌜ (l1 ≤ 8) × (l2 ≤ 8) ⌝ }
     ensures { λ r. ⌜ r ≡ numberOf 8 (orderedOf 8 (now (x1 .entry)) l1 (now (x2 .entry)) l2) ⌝ }
@@ -157,6 +155,7 @@ fn equal_ordered(x1: &[u16; 8], l1: usize, x2: &[u16; 8], l2: usize) -> u32
     while i < l1 {
         let found = (alike::same_words(x2, x1[i]) & valid) | 0xffffff00;
         left = left & (found >> (i as u32));
+        // from the second element on, is nothing left? (docs/PERFORMANCE.md)
         if left < ((i + 15) / 16) as u32 {
             return 0;
         }
@@ -167,7 +166,7 @@ fn equal_ordered(x1: &[u16; 8], l1: usize, x2: &[u16; 8], l2: usize) -> u32
 
 // IntRes1.
 fn aggregated(k: Control, x1: &[u16; 8], l1: usize, x2: &[u16; 8], l2: usize) -> u32
-    requires { ⌜ (k .words ≡ true) × (l1 ≤ 8) × (l2 ≤ 8) ⌝ }
+    requires { ⌜ (k .words ≡ inWords) × (l1 ≤ 8) × (l2 ≤ 8) ⌝ }
     ensures { λ r. ⌜ r ≡ numberOf 8 (intRes1 (operands k (now (x1 .entry)) l1 (now (x2 .entry)) l2)) ⌝ }
 {
     let a = k.aggregation;
@@ -181,7 +180,7 @@ fn aggregated(k: Control, x1: &[u16; 8], l1: usize, x2: &[u16; 8], l2: usize) ->
 
 // IntRes2, with the effective lengths.
 fn compared(k: Control, x1: &[u16; 8], l1: usize, x2: &[u16; 8], l2: usize) -> Compared
-    requires { ⌜ (k .words ≡ true) × (l1 ≤ 8) × (l2 ≤ 8) ⌝ }
+    requires { ⌜ (k .words ≡ inWords) × (l1 ≤ 8) × (l2 ≤ 8) ⌝ }
     ensures { λ r. ⌜ r ≡ comparedOf (operands k (now (x1 .entry)) l1 (now (x2 .entry)) l2) ⌝ }
 {
     let p = k.polarity;
@@ -201,7 +200,7 @@ pub(crate) fn explicit(
     length2: i32,
     k: Control,
 ) -> Compared
-    requires { ⌜ k .words ≡ true ⌝ }
+    requires { ⌜ k .words ≡ inWords ⌝ }
     ensures { λ r. ⌜ r ≡ comparedOf (explicit operand1 length1 operand2 length2 k) ⌝ }
 {
     let l1 = operand::explicit_length(true, length1);
@@ -213,7 +212,7 @@ pub(crate) fn explicit(
 
 // What an implicit call compares.
 pub(crate) fn implicit(operand1: [u8; 16], operand2: [u8; 16], k: Control) -> Compared
-    requires { ⌜ k .words ≡ true ⌝ }
+    requires { ⌜ k .words ≡ inWords ⌝ }
     ensures { λ r. ⌜ r ≡ comparedOf (implicit operand1 operand2 k) ⌝ }
 {
     let x1 = operand::words_of(operand1);
@@ -225,7 +224,7 @@ pub(crate) fn implicit(operand1: [u8; 16], operand2: [u8; 16], k: Control) -> Co
 
 // The index of `pcmpestri` at control 0Dh: where operand 1 first stands in operand 2.
 pub fn index_0d(operand1: [u8; 16], length1: usize, operand2: [u8; 16], length2: usize) -> u32
-    ensures { λ r. ⌜ r ≡ PCMPESTRI operand1 (pos length1) operand2 (pos length2) 13 .index ⌝ }
+    ensures { λ r. ⌜ r ≡ PCMPESTRI operand1 (pos length1) operand2 (pos length2) 0x0D .index ⌝ }
 {
     let x1 = operand::words_of(operand1);
     let x2 = operand::words_of(operand2);
@@ -236,7 +235,7 @@ pub fn index_0d(operand1: [u8; 16], length1: usize, operand2: [u8; 16], length2:
 
 // The index of `pcmpestri` at control 19h: where the operands first differ.
 pub fn index_19(operand1: [u8; 16], length1: usize, operand2: [u8; 16], length2: usize) -> u32
-    ensures { λ r. ⌜ r ≡ PCMPESTRI operand1 (pos length1) operand2 (pos length2) 25 .index ⌝ }
+    ensures { λ r. ⌜ r ≡ PCMPESTRI operand1 (pos length1) operand2 (pos length2) 0x19 .index ⌝ }
 {
     let x1 = operand::words_of(operand1);
     let x2 = operand::words_of(operand2);

@@ -1,9 +1,10 @@
 // The order of two texts of bytes.
 use crate::OrderAnswer;
 ghost use mathlib.Core.Path.{_≡_};
-ghost use mathlib.Core.Bool.{cond, false};
+ghost use mathlib.Core.Bool.{cond};
 ghost use Prim.Native.Nat.{_≤_};
 ghost use lib.ListN.{length};
+ghost use Rattle.unit.specs.Operand.{inBytes};
 ghost use Rattle.blocks.specs.Blocks.{longestText};
 ghost use Rattle.orders.specs.Orders.{difference, isSecond, lesserText, order, orderAnswer, orderRefusal};
 
@@ -29,7 +30,7 @@ fn difference(first: &[u8], second: &[u8]) -> usize
 // The order of two texts.
 fn order(first: &[u8], second: &[u8], signed: bool) -> i32
     requires { ⌜ (length (now first) ≤ longestText) × (length (now second) ≤ longestText) ⌝ }
-    ensures { λ r. ⌜ r ≡ order false signed (now (first .entry)) (now (second .entry)) ⌝ }
+    ensures { λ r. ⌜ r ≡ order inBytes signed (now (first .entry)) (now (second .entry)) ⌝ }
 {
     let k = difference(first, second);
     if k < bits::min(first.len(), second.len()) {
@@ -43,7 +44,7 @@ fn order(first: &[u8], second: &[u8], signed: bool) -> i32
 
 // The order of two texts, or the number that refuses them.
 pub fn compare(first: &[u8], second: &[u8], signed: bool) -> OrderAnswer
-    ensures { λ r. ⌜ r ≡ orderAnswer false signed (now (first .entry)) (now (second .entry)) ⌝ }
+    ensures { λ r. ⌜ r ≡ orderAnswer inBytes signed (now (first .entry)) (now (second .entry)) ⌝ }
 {
     let number = crate::order_refusal(first.len(), second.len());
     if number > 0 {
@@ -68,7 +69,7 @@ pub fn lesser_refusal(first: &[u8], second: &[u8], _signed: bool) -> u32
 // The smaller of two texts itself, the first when they are equal. Refused, the empty front of the
 // first.
 pub fn lesser<'a>(first: &'a [u8], second: &'a [u8], signed: bool) -> &'a [u8]
-    ensures { λ r. ⌜ (r .ptr ≡ cond (isSecond false signed (now (first .entry)) (now (second .entry))) (second .entry .ptr) (first .entry .ptr)) × (now r ≡ lesserText false signed (now (first .entry)) (now (second .entry))) ⌝ }
+    ensures { λ r. ⌜ (r .ptr ≡ cond (isSecond inBytes signed (now (first .entry)) (now (second .entry))) (second .entry .ptr) (first .entry .ptr)) × (now r ≡ lesserText inBytes signed (now (first .entry)) (now (second .entry))) ⌝ }
 {
     if lesser_refusal(first, second, signed) > 0 {
         return &first[..0];

@@ -1,9 +1,10 @@
 // The order of two texts of words.
 use crate::OrderAnswer;
 ghost use mathlib.Core.Path.{_≡_};
-ghost use mathlib.Core.Bool.{cond, true};
+ghost use mathlib.Core.Bool.{cond};
 ghost use Prim.Native.Nat.{_≤_};
 ghost use lib.ListN.{length};
+ghost use Rattle.unit.specs.Operand.{inWords};
 ghost use Rattle.blocks.specs.Blocks.{longestText};
 ghost use Rattle.orders.specs.Orders.{difference, isSecond, lesserText, order, orderAnswer, orderRefusal};
 
@@ -29,7 +30,7 @@ fn difference(first: &[u16], second: &[u16]) -> usize
 // The order of two texts.
 fn order(first: &[u16], second: &[u16], signed: bool) -> i32
     requires { ⌜ (length (now first) ≤ longestText) × (length (now second) ≤ longestText) ⌝ }
-    ensures { λ r. ⌜ r ≡ order true signed (now (first .entry)) (now (second .entry)) ⌝ }
+    ensures { λ r. ⌜ r ≡ order inWords signed (now (first .entry)) (now (second .entry)) ⌝ }
 {
     let k = difference(first, second);
     if k < bits::min(first.len(), second.len()) {
@@ -43,7 +44,7 @@ fn order(first: &[u16], second: &[u16], signed: bool) -> i32
 
 // The order of two texts, or the number that refuses them.
 pub fn compare(first: &[u16], second: &[u16], signed: bool) -> OrderAnswer
-    ensures { λ r. ⌜ r ≡ orderAnswer true signed (now (first .entry)) (now (second .entry)) ⌝ }
+    ensures { λ r. ⌜ r ≡ orderAnswer inWords signed (now (first .entry)) (now (second .entry)) ⌝ }
 {
     let number = crate::order_refusal(first.len(), second.len());
     if number > 0 {
@@ -68,7 +69,7 @@ pub fn lesser_refusal(first: &[u16], second: &[u16], _signed: bool) -> u32
 // The smaller of two texts itself, the first when they are equal. Refused, the empty front of the
 // first.
 pub fn lesser<'a>(first: &'a [u16], second: &'a [u16], signed: bool) -> &'a [u16]
-    ensures { λ r. ⌜ (r .ptr ≡ cond (isSecond true signed (now (first .entry)) (now (second .entry))) (second .entry .ptr) (first .entry .ptr)) × (now r ≡ lesserText true signed (now (first .entry)) (now (second .entry))) ⌝ }
+    ensures { λ r. ⌜ (r .ptr ≡ cond (isSecond inWords signed (now (first .entry)) (now (second .entry))) (second .entry .ptr) (first .entry .ptr)) × (now r ≡ lesserText inWords signed (now (first .entry)) (now (second .entry))) ⌝ }
 {
     if lesser_refusal(first, second, signed) > 0 {
         return &first[..0];

@@ -79,14 +79,14 @@ pub fn pcmpistrm(operand1: [u8; 16], operand2: [u8; 16], control: u8) -> MaskAns
 // The index of `pcmpestri` at control 0Ch: where operand 1 first stands in operand 2, in unsigned
 // bytes.
 pub fn pcmpestri_0c(operand1: [u8; 16], length1: usize, operand2: [u8; 16], length2: usize) -> u32
-    ensures { λ r. ⌜ r ≡ PCMPESTRI operand1 (pos length1) operand2 (pos length2) 12 .index ⌝ }
+    ensures { λ r. ⌜ r ≡ PCMPESTRI operand1 (pos length1) operand2 (pos length2) 0x0C .index ⌝ }
 {
     bytes::index_0c(operand1, length1, operand2, length2)
 }
 
 // The index of `pcmpestri` at control 18h: where the operands first differ, in unsigned bytes.
 pub fn pcmpestri_18(operand1: [u8; 16], length1: usize, operand2: [u8; 16], length2: usize) -> u32
-    ensures { λ r. ⌜ r ≡ PCMPESTRI operand1 (pos length1) operand2 (pos length2) 24 .index ⌝ }
+    ensures { λ r. ⌜ r ≡ PCMPESTRI operand1 (pos length1) operand2 (pos length2) 0x18 .index ⌝ }
 {
     bytes::index_18(operand1, length1, operand2, length2)
 }
@@ -94,14 +94,14 @@ pub fn pcmpestri_18(operand1: [u8; 16], length1: usize, operand2: [u8; 16], leng
 // The index of `pcmpestri` at control 0Dh: where operand 1 first stands in operand 2, in unsigned
 // words.
 pub fn pcmpestri_0d(operand1: [u8; 16], length1: usize, operand2: [u8; 16], length2: usize) -> u32
-    ensures { λ r. ⌜ r ≡ PCMPESTRI operand1 (pos length1) operand2 (pos length2) 13 .index ⌝ }
+    ensures { λ r. ⌜ r ≡ PCMPESTRI operand1 (pos length1) operand2 (pos length2) 0x0D .index ⌝ }
 {
     words::index_0d(operand1, length1, operand2, length2)
 }
 
 // The index of `pcmpestri` at control 19h: where the operands first differ, in unsigned words.
 pub fn pcmpestri_19(operand1: [u8; 16], length1: usize, operand2: [u8; 16], length2: usize) -> u32
-    ensures { λ r. ⌜ r ≡ PCMPESTRI operand1 (pos length1) operand2 (pos length2) 25 .index ⌝ }
+    ensures { λ r. ⌜ r ≡ PCMPESTRI operand1 (pos length1) operand2 (pos length2) 0x19 .index ⌝ }
 {
     words::index_19(operand1, length1, operand2, length2)
 }

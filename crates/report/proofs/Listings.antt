@@ -1,4 +1,5 @@
--- The lines for a text and a needle: how long they are, and that they are put at the front of a page. No report is longer than `longestReport`. Assumes nothing.
+-- The lines for a text and a needle: how long they are, and that they are put at the front of a
+-- page. No report is longer than `longestReport`. Assumes nothing.
 use Prim.Native.Nat.{ℕ, suc, _+_, _-_, _*_, _/_, _≤_, _<_}
 use mathlib.Core.Path.{_≡_, sym, subst, _∙_}
 use mathlib.Core.Bool.{false}
@@ -22,7 +23,7 @@ use Rattle.search.proofs.Callers.{position-within, positions-few}
 use Rattle.report.specs.declared.Tally.{Tally}
 use Rattle.report.specs.declared.ReportAnswer.{ReportAnswer}
 use Rattle.report.specs.Report.{feedAt, needleOf, textOf, longestInput, longestReport, refusalOf, numberLine, matchLines, totalsLine, comparesFor, listing, refusalLine, reportOf, linesOf, Reported}
-use Rattle.report.specs.Parts.{Found, Put, refusedReport}
+use Rattle.report.specs.Writers.{Found, Put, refusedReport}
 use Rattle.report.proofs.Inputs.{feed-within, length-needle, too-long, no-feed, long-needle, no-refusal, refusal-small}
 use Rattle.report.proofs.Lines.{length-number, length-totals, length-lines}
 

@@ -17,7 +17,8 @@ pub number-put : (n : ℕ) (b : List ℕ) → n < 100000000 → 9 ≤ length b �
 unfolding numberLine
 number-put n b h g = rw (writes n 8 b h (omega arith) (omega arith) (omega arith)) (feed-put (column n 8) b 8 (length-column n 8 h (omega arith)) (omega arith))
 
--- the totals, in the columns after the matches' and then the line feed; `b` is the page before, `c` with the matches written
+-- the totals, in the columns after the matches' and then the line feed; `b` is the page before, `c`
+-- with the matches written
 module _ (m k : ℕ) (b c : List ℕ) (e : c ≡ written m 8 b) (h : m < 100000000) (g : k < 10000000000) (room : 19 ≤ length b) where
   front : c ≡ column m 8 ++ drop 8 b
   front = e ∙ writes m 8 b h (omega arith) (omega arith) (omega arith)

@@ -20,7 +20,7 @@ use Rattle.search.proofs.Lists.{calls-find-all}
 use Rattle.search.proofs.Callers.{finds, ends, position-within}
 use Rattle.report.specs.declared.Tally.{Tally}
 use Rattle.report.specs.Report.{longestInput, numberLine, matchLines}
-use Rattle.report.specs.Parts.{afterNext, Small, withMatch, Found}
+use Rattle.report.specs.Writers.{afterNext, Small, withMatch, Found}
 use Rattle.report.proofs.Lines.{lines-more, length-lines}
 use Rattle.decimal.proofs.Pages.{line-put}
 

@@ -1,11 +1,13 @@
--- What the program `hits` prints for the bytes that it read (document 01, "The program `hits`"), made from where the needle stands and from the walk's
--- count. Bytes are numbers; 10 is a line feed.
+-- What the program `hits` prints for the bytes that it read (document 01, "The program `hits`"),
+-- made from where the needle stands and from the walk's count. Bytes are numbers; 10 is a line
+-- feed.
 use Prim.Native.Nat.{ℕ, zero, suc}
 use mathlib.Core.Path.{_≡_}
-use mathlib.Core.Bool.{cond, false}
+use mathlib.Core.Bool.{cond}
 use mathlib.Core.List.{List, [], _∷_, _++_}
 use lib.Dec.{eqb, ltb}
 use lib.ListN.{length, take, drop, replicate}
+use Rattle.unit.specs.Operand.{inBytes}
 use Rattle.decimal.specs.Decimal.{column}
 use Rattle.search.specs.Positions.{positions}
 use Rattle.search.specs.Walk.{walkCount}
@@ -58,7 +60,7 @@ totalsLine matches compares = line (column matches 8 ++ column compares 10)
 
 -- the compares of the calls that find every match, and of the one after them, which says absent
 abbrev pub comparesFor : List ℕ → List ℕ → ℕ
-comparesFor text needle = walkCount false text needle (suc (length (positions text needle)))
+comparesFor text needle = walkCount inBytes text needle (suc (length (positions text needle)))
 
 -- the lines for a text and a needle
 unfoldable pub listing : List ℕ → List ℕ → List ℕ
@@ -66,8 +68,8 @@ listing text needle = matchLines (positions text needle) ++ totalsLine (length (
 
 -- ---- what is printed
 
--- The line of a refusal's number. One of more than 8 digits, which no refusal has, leaves its columns
--- blank.
+-- The line of a refusal's number. One of more than 8 digits, which no refusal has, leaves its
+-- columns blank.
 unfoldable pub refusalLine : ℕ → List ℕ
 refusalLine n = cond (ltb n 100000000) (numberLine n) (line (replicate 8 32))
 
@@ -76,9 +78,8 @@ abbrev pub printed : ℕ → List ℕ → List ℕ → List ℕ
 printed zero text needle = listing text needle
 printed (suc r) text needle = numberLine (suc r)
 
--- All that the program prints. `report` gives the lines of an input that is accepted, `refusal_line`
--- the one line of an input that is refused (`printed-lines` and `printed-refusal` in
--- proofs/Listings.antt).
+-- All that the program prints: what `report` and `refusal_line` give is that, by `printed-lines`
+-- and `printed-refusal` in proofs/Listings.antt.
 unfoldable pub reportOf : List ℕ → List ℕ
 reportOf input = printed (refusalOf input) (textOf input) (needleOf input)
 
@@ -99,8 +100,7 @@ pub record Reported (input before after : List ℕ) (r : ReportAnswer) : Type 0 
   pub written : r .written ≡ length (linesOf input)
   pub page : after ≡ linesOf input ++ drop (length (linesOf input)) before
 
--- The longest report, and so the length of a page: an empty needle stands at 65,536 positions of the
--- longest text, 65,535 bytes, each in a line of 9; the totals take 19. No report is longer
--- (`report-fits` in proofs/Listings.antt).
+-- The longest report, and so the length of a page (`report-fits` in proofs/Listings.antt): an empty
+-- needle in 65,535 bytes makes 65,536 lines of 9 bytes, and the totals take 19.
 abbrev pub longestReport : ℕ
 longestReport = 589843

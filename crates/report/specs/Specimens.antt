@@ -1,4 +1,5 @@
--- The worked example of document 01, the smallest inputs and each refusal at its edge, in one list that one computed check covers.
+-- The worked example of document 01, the smallest inputs and each refusal at its edge, in one list
+-- that one computed check covers.
 use Prim.Native.Nat.{ℕ, _+_}
 use mathlib.Core.Bool.{Bool, _&&_}
 use mathlib.Core.List.{List, [], _∷_, _++_}
@@ -27,7 +28,8 @@ example =
     same (reportOf (65 ∷ 66 ∷ 10 ∷ 65 ∷ 66 ∷ 90 ∷ 65 ∷ 66 ∷ []))
     (digit 7 0 ++ (10 ∷ []) ++ digit 7 3 ++ (10 ∷ []) ++ digit 7 2 ++ digit 9 3 ++ (10 ∷ []))
 
--- an empty needle in an empty text, and in one byte; a needle and no text; a text that is the needle, and one with a byte more, whose last walk takes a compare too
+-- an empty needle in an empty text, and in one byte; a needle and no text; a text that is the
+-- needle, and one with a byte more, whose last walk takes a compare too
 unfoldable pub smallest : Bool
 smallest =
     same (reportOf (10 ∷ [])) (digit 7 0 ++ (10 ∷ []) ++ digit 7 1 ++ digit 9 0 ++ (10 ∷ []))

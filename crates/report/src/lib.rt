@@ -1,8 +1,10 @@
-// What the program `hits` prints, as a function of the bytes that it read: document 01, "The program `hits`".
+// What the program `hits` prints, as a function of the bytes that it read: document 01, "The
+// program `hits`".
 //
 // Public calls: `report`, which writes a line for each match and a line of totals, and
-// `refusal_line`, the one line that is printed where `report` refuses the input. Neither asks anything
-// of its arguments. The needle is the input up to its first line feed, the text all after it.
+// `refusal_line`, the one line that is printed where `report` refuses the input. Neither asks
+// anything of its arguments. The needle is the input up to its first line feed, the text all after
+// it.
 use search::Cursor;
 use search::Next;
 ghost use mathlib.Core.Path.{_≡_};
@@ -12,7 +14,7 @@ ghost use Prim.Native.Nat.{_+_, _≤_, _<_};
 ghost use lib.ListN.{length, drop};
 ghost use Rattle.search.specs.Cursors.{freshCursor};
 ghost use Rattle.report.specs.Report.{feedAt, listing, longestInput, numberLine, refusalLine, Reported, totalsLine};
-ghost use Rattle.report.specs.Parts.{afterNext, Found, Listable, Put, refusedReport, Small, tallyOf, withMatch};
+ghost use Rattle.report.specs.Writers.{afterNext, Found, Listable, Put, refusedReport, Small, tallyOf, withMatch};
 
 // The most bytes of an input.
 pub const LONGEST_INPUT: usize = 65536;
@@ -21,8 +23,8 @@ pub const LONGEST_INPUT: usize = 65536;
 // length, so that it is long enough for every input.
 pub const LONGEST_REPORT: usize = 589843;
 
-// Refusals, by the numbers of document 01: an input without a line feed, and one that is too long. A
-// needle that is too long is refused by `search::NEEDLE_REFUSED`, number 3.
+// Refusals, by the numbers of document 01: an input without a line feed, and one that is too long.
+// A needle that is too long is refused by `search::NEEDLE_REFUSED`, number 3.
 pub const FEED_REFUSED: u32 = 6;
 
 pub const INPUT_REFUSED: u32 = 7;
@@ -37,14 +39,15 @@ pub const NUMBER_LINE: usize = 9;
 
 const TOTALS_LINE: usize = 19;
 
-// The answer of `report`: the number that refuses the input, or 0, and how many bytes were written at
-// the front of the page. Refused, none were.
+// The answer of `report`: the number that refuses the input, or 0, and how many bytes were written
+// at the front of the page. Refused, none were.
 pub struct ReportAnswer {
     pub refusal: u32,
     pub written: usize,
 }
 
-// How far a list of calls has got: the matches so far, the cursor, and whether another match may follow.
+// How far a list of calls has got: the matches so far, the cursor, and whether another match may
+// follow.
 struct Tally {
     matches: usize,
     cursor: Cursor,
@@ -63,7 +66,8 @@ impl Tally {
         }
     }
 
-    // After a call's answer. Only a match has another call follow. A text and a needle within their limits are never refused.
+    // After a call's answer. Only a match has another call follow. A text and a needle within their
+    // limits are never refused.
     fn after(self, next: Next) -> Tally
         requires { ⌜ self .matches ≤ longestInput ⌝ }
         ensures { λ r. ⌜ r ≡ afterNext self next ⌝ }
@@ -170,8 +174,8 @@ fn refused(number: u32) -> ReportAnswer
     }
 }
 
-// Writes the lines that the program prints for an input at the front of the page; the rest of the page
-// stays as it was. Refused, the whole page does.
+// Writes the lines that the program prints for an input at the front of the page; the rest of the
+// page stays as it was. Refused, the whole page does.
 pub fn report(input: &[u8], page: &mut [u8; LONGEST_REPORT]) -> ReportAnswer
     ensures { λ r. ⌜ Reported (now (input .entry)) (now (page .entry)) (now (page .exit)) r ⌝ }
 {
@@ -192,8 +196,8 @@ pub fn report(input: &[u8], page: &mut [u8; LONGEST_REPORT]) -> ReportAnswer
     }
 }
 
-// The line that the program prints for an input that is refused by this number. A number of more than
-// 8 digits, which no refusal has, leaves its columns blank.
+// The line that the program prints for an input that is refused by this number. A number of more
+// than 8 digits, which no refusal has, leaves its columns blank.
 pub fn refusal_line(number: u32) -> [u8; NUMBER_LINE]
     ensures { λ r. ⌜ r ≡ refusalLine number ⌝ }
 {

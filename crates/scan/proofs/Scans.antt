@@ -24,7 +24,7 @@ use Rattle.unit.specs.Operand.{count, elements, explicitLength, wordAt, wordsOf
 use Rattle.unit.specs.Compare.{override, boolRes, intRes1, intRes2}
 use Rattle.unit.specs.Output.{indexOf}
 use Rattle.unit.specs.Calls.{PCMPESTRI}
-use Rattle.unit.specs.Parts.{follows, orderedOf}
+use Rattle.unit.specs.Modes.{follows, orderedOf}
 use Rattle.scan.specs.Scan.{wholeBlocks, indexIn, scanned, firstFound, scanOf}
 use Rattle.scan.specs.Letters.{ahead, unaskedIn, standsAt, startsAt, Passed}
 
@@ -208,7 +208,8 @@ module _ (words : Bool) (operand1 : List ℕ) (l : ℕ) (part : List ℕ) (i : �
   letter-same : (n j k x : ℕ) → j + k < n → standsAt text x u j k ≡ standsAt (take n text) x u j k
   letter-same n j k x h = ap (λ (v : ℕ). eqb v x || getD u (16 * k + j) false) (sym (getD-take n text (j + k) 0 h))
 
-  -- A block that leaves room for the elements ahead, from p to e, and in which they stand nowhere is passed.
+  -- A block that leaves room for the elements ahead, from p to e, and in which they stand nowhere
+  -- is passed.
   pub block-passed : (p e : ℕ) → p ≡ i * count words → e ≡ p + count words + ahead → e ≤ length part → Passed words operand1 l part i → i < wholeBlocks words part
       → ((j : ℕ) → j < count words → startsAt (take (e - p) (drop p part)) letters u j ≡ false)
       → Passed words operand1 l part (i + 1)

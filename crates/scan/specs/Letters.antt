@@ -7,7 +7,7 @@ use mathlib.Core.Bool.{Bool, false, _&&_, _||_}
 use mathlib.Core.List.{List}
 use lib.Dec.{eqb, leb}
 use lib.ListN.{getD, length}
-use Rattle.unit.specs.Operand.{count}
+use Rattle.unit.specs.Operand.{count, inBytes}
 use Rattle.scan.specs.Scan.{indexIn, wholeBlocks}
 
 -- How far past a block its letters may stand, and a block with these elements.
@@ -17,9 +17,8 @@ ahead = 3
 abbrev pub reach : Bool → ℕ
 reach words = count words + ahead
 
--- Four rows of sixteen places, a row for each letter: whether the letter is not asked for at that
--- place of a block of b elements, since the operand has only l letters or the letter would stand
--- past the block.
+-- Four rows of sixteen places, a row for each letter: the letter is not asked for at that place, as
+-- it is past the operand's l letters or would stand past the block of b elements.
 abbrev pub unaskedIn : ℕ → ℕ → ℕ → Bool
 unaskedIn b l k = leb l (k / 16) || leb b (k / 16 + k % 16)
 
@@ -35,7 +34,7 @@ startsAt y xs u j =
 
 -- a block of bytes with the bytes ahead of it, and rows that ask for the first letter everywhere
 pub record Testable (part : List ℕ) (rows : List Bool) : Type 0 where
-  pub size : length part ≡ reach false
+  pub size : length part ≡ reach inBytes
   pub asked : (j : ℕ) → j < 16 → getD rows j false ≡ false
 
 -- The part has i whole blocks or more, and the compare of each of the first i has index b.

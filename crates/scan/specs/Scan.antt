@@ -1,6 +1,6 @@
--- The two compares of a search, each repeated over a part. A scan: equal ordered, operand 1 with each
--- whole block of a part in turn, up to the first whose index is not b. And how many pieces of two
--- parts agree: equal each, negated, up to the first that differs. `words` is the width; b is
+-- The two compares of a search, each repeated over a part. A scan: equal ordered, operand 1 with
+-- each whole block of a part in turn, up to the first whose index is not b. And how many pieces of
+-- two parts agree: equal each, negated, up to the first that differs. `words` is the width; b is
 -- `count words`.
 use Prim.Native.Nat.{ℕ, _+_, _*_, _-_, _/_, min}
 use mathlib.Core.Bool.{Bool, not, cond}

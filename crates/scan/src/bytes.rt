@@ -7,20 +7,21 @@ ghost use mathlib.Core.Path.{_≡_};
 ghost use mathlib.Core.Bool.{false};
 ghost use Prim.Native.Nat.{ℕ, _≤_, _<_};
 ghost use lib.ListN.{length};
+ghost use Rattle.unit.specs.Operand.{inBytes};
 ghost use Rattle.scan.specs.Letters.{Begun, Reached, Testable, reach, standsAt, startsAt};
 ghost use Rattle.scan.specs.Scan.{agreeing, scanOf};
 
 // Whether letter i stands in its place, for an operand that begins at place j of a block, or is not
 // asked for there. `part` is the block and the bytes ahead of it.
 fn stands(part: &[u8], letter: u8, rows: &[bool; 64], j: usize, i: usize) -> bool
-    requires { ⌜ (length (now part) ≡ reach false) × (j < 16) × (i ≤ 3) ⌝ }
+    requires { ⌜ (length (now part) ≡ reach inBytes) × (j < 16) × (i ≤ 3) ⌝ }
     ensures { λ r. ⌜ r ≡ standsAt (now (part .entry)) letter (now (rows .entry)) j i ⌝ }
 {
     (part[j + i] == letter) | rows[16 * i + j]
 }
 
 // Whether the first four letters stand anywhere in a block, as far as they are asked for; the first
-// always is. The tests are joined with no branch, so that they become compares of whole vectors.
+// always is. The tests are joined with no branch, for speed (docs/PERFORMANCE.md).
 fn may_start(part: &[u8], operand1: &[u8; 16], rows: &[bool; 64]) -> bool
     requires { ⌜ Testable (now part) (now rows) ⌝ }
     ensures { λ r. ⌜ (r ≡ false → (j : ℕ) → j < 16 → startsAt (now (part .entry)) (now (operand1 .entry)) (now (rows .entry)) j ≡ false) ⌝ }
@@ -40,8 +41,8 @@ fn may_start(part: &[u8], operand1: &[u8; 16], rows: &[bool; 64]) -> bool
 
 // The next block from `from` on that the letters do not rule out, as far as there are bytes ahead.
 fn pass(operand1: &[u8; 16], l: usize, part: &[u8], from: usize) -> usize
-    requires { ⌜ Begun false (now operand1) l (now part) from ⌝ }
-    ensures { λ r. ⌜ Reached false (now (operand1 .entry)) l (now (part .entry)) from r ⌝ }
+    requires { ⌜ Begun inBytes (now operand1) l (now part) from ⌝ }
+    ensures { λ r. ⌜ Reached inBytes (now (operand1 .entry)) l (now (part .entry)) from r ⌝ }
 {
     let rows = unasked(16, l);
     let n = part.len();
@@ -61,8 +62,8 @@ fn pass(operand1: &[u8; 16], l: usize, part: &[u8], from: usize) -> usize
 // The scan of a part whose first block has index 16. Of the others only those are compared that the
 // letters do not rule out.
 fn later(operand1: &[u8; 16], l: usize, part: &[u8]) -> Scanned
-    requires { ⌜ Begun false (now operand1) l (now part) 1 ⌝ }
-    ensures { λ r. ⌜ r ≡ scanOf false (now (operand1 .entry)) l (now (part .entry)) ⌝ }
+    requires { ⌜ Begun inBytes (now operand1) l (now part) 1 ⌝ }
+    ensures { λ r. ⌜ r ≡ scanOf inBytes (now (operand1 .entry)) l (now (part .entry)) ⌝ }
 {
     let whole = part.len() / 16;
     let mut i = pass(operand1, l, part, 1);
@@ -86,7 +87,7 @@ fn later(operand1: &[u8; 16], l: usize, part: &[u8]) -> Scanned
 
 // The scan. The first block is compared straight away: mostly it answers.
 pub fn scan(operand1: [u8; 16], l: usize, part: &[u8]) -> Scanned
-    ensures { λ r. ⌜ r ≡ scanOf false operand1 l (now (part .entry)) ⌝ }
+    ensures { λ r. ⌜ r ≡ scanOf inBytes operand1 l (now (part .entry)) ⌝ }
 {
     if part.len() < 16 {
         return Scanned {
@@ -104,10 +105,10 @@ pub fn scan(operand1: [u8; 16], l: usize, part: &[u8]) -> Scanned
     later(&operand1, l, part)
 }
 
-// How many pieces of two parts agree, up to the first that differs. Pieces are of 16 bytes, the last may
-// be shorter, and what one part has more than the other is left out.
+// How many pieces of two parts agree, up to the first that differs. Pieces are of 16 bytes, the
+// last may be shorter, and what one part has more than the other is left out.
 pub fn agree(x: &[u8], y: &[u8]) -> usize
-    ensures { λ r. ⌜ r ≡ agreeing false (now (x .entry)) (now (y .entry)) ⌝ }
+    ensures { λ r. ⌜ r ≡ agreeing inBytes (now (x .entry)) (now (y .entry)) ⌝ }
 {
     let n = bits::min(x.len(), y.len());
     let whole = n / 16;

@@ -1,9 +1,12 @@
-// The unit's compare repeated: one operand against each whole block of a part of a text in turn, up
-// to the first block in which it has a place.
+// The two compares of a search, each repeated over a part of a text.
 //
-// Public calls: `bytes::scan` and `words::scan`. Neither asks anything of its arguments. A block in
-// which the operand's first four letters stand nowhere has index b, by the law `ruled-out`, and is
-// passed with no call of the unit. This file has what is the same for both widths.
+// Public calls, in each of the modules `bytes` and `words`; none asks anything of its arguments:
+// - `scan` compares one operand with each whole block in turn, up to the first that has an index. A
+//   block in which the operand's first four letters stand nowhere has index b, by the law
+//   `ruled-out` (proofs/Scans.antt), and is passed with no call of the unit;
+// - `agree` compares two parts piece by piece, up to the first that differs.
+//
+// This file has what is the same for both widths.
 pub mod bytes;
 pub mod words;
 
@@ -21,9 +24,8 @@ pub struct Scanned {
 // How far past a block its letters may stand.
 const AHEAD: usize = 3;
 
-// Which of the first four letters of an operand of l letters are not asked for, at each place of a
-// block of b elements: those that it does not have, and those that would stand past the block. Four
-// rows of sixteen places, a row for each letter.
+// Which of an operand's first four letters are not asked for at a place of a block of b elements:
+// those past its l letters or past the block. Four rows of sixteen places, one for each letter.
 fn unasked(b: usize, l: usize) -> [bool; 64]
     ensures { λ r. ⌜ r ≡ tabulate 64 (unaskedIn b l) ⌝ }
 {

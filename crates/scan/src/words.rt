@@ -5,26 +5,26 @@ use crate::unasked;
 use blocks::whole_words;
 use stages::operand::word;
 ghost use mathlib.Core.Path.{_≡_};
-ghost use mathlib.Core.Bool.{false, true};
+ghost use mathlib.Core.Bool.{false};
 ghost use Prim.Native.Nat.{ℕ, _+_, _*_, _≤_, _<_};
 ghost use lib.ListN.{length};
-ghost use Rattle.unit.specs.Operand.{wordsOf};
+ghost use Rattle.unit.specs.Operand.{inWords, wordsOf};
 ghost use Rattle.scan.specs.Letters.{Passed, Reached, reach, standsAt, startsAt};
 ghost use Rattle.scan.specs.Scan.{agreeing, scanOf};
 
 // Whether letter i stands in its place, for an operand that begins at place j of a block, or is not
 // asked for there. `part` is the block and the words ahead of it.
 fn stands(part: &[u16], letter: u16, rows: &[bool; 64], j: usize, i: usize) -> bool
-    requires { ⌜ (length (now part) ≡ reach true) × (j < 8) × (i ≤ 3) ⌝ }
+    requires { ⌜ (length (now part) ≡ reach inWords) × (j < 8) × (i ≤ 3) ⌝ }
     ensures { λ r. ⌜ r ≡ standsAt (now (part .entry)) letter (now (rows .entry)) j i ⌝ }
 {
     (part[j + i] == letter) | rows[16 * i + j]
 }
 
 // Whether the first four letters stand anywhere in a block, as far as they are asked for. The tests
-// are joined with no branch, so that they become compares of whole vectors.
+// are joined with no branch, for speed (docs/PERFORMANCE.md).
 fn may_start(part: &[u16], operand1: &[u8; 16], rows: &[bool; 64]) -> bool
-    requires { ⌜ length (now part) ≡ reach true ⌝ }
+    requires { ⌜ length (now part) ≡ reach inWords ⌝ }
     ensures { λ r. ⌜ (r ≡ false → (j : ℕ) → j < 8 → startsAt (now (part .entry)) (wordsOf (now (operand1 .entry))) (now (rows .entry)) j ≡ false) ⌝ }
 {
     let a0 = word(operand1[0], operand1[1]);
@@ -46,8 +46,8 @@ fn may_start(part: &[u16], operand1: &[u8; 16], rows: &[bool; 64]) -> bool
 
 // The next block from `from` on that the letters do not rule out, as far as there are words ahead.
 fn pass(operand1: &[u8; 16], l: usize, part: &[u16], from: usize) -> usize
-    requires { ⌜ Passed true (now operand1) l (now part) from ⌝ }
-    ensures { λ r. ⌜ Reached true (now (operand1 .entry)) l (now (part .entry)) from r ⌝ }
+    requires { ⌜ Passed inWords (now operand1) l (now part) from ⌝ }
+    ensures { λ r. ⌜ Reached inWords (now (operand1 .entry)) l (now (part .entry)) from r ⌝ }
 {
     let rows = unasked(8, l);
     let n = part.len();
@@ -67,7 +67,7 @@ fn pass(operand1: &[u8; 16], l: usize, part: &[u16], from: usize) -> usize
 // The scan. In words a compare costs more than the test for four letters, so each block is tested
 // first, the first one too.
 pub fn scan(operand1: [u8; 16], l: usize, part: &[u16]) -> Scanned
-    ensures { λ r. ⌜ r ≡ scanOf true operand1 l (now (part .entry)) ⌝ }
+    ensures { λ r. ⌜ r ≡ scanOf inWords operand1 l (now (part .entry)) ⌝ }
 {
     let whole = part.len() / 8;
     let mut i = 0;
@@ -96,10 +96,10 @@ pub fn scan(operand1: [u8; 16], l: usize, part: &[u16]) -> Scanned
     }
 }
 
-// How many pieces of two parts agree, up to the first that differs. Pieces are of 8 words, the last may
-// be shorter, and what one part has more than the other is left out.
+// How many pieces of two parts agree, up to the first that differs. Pieces are of 8 words, the last
+// may be shorter, and what one part has more than the other is left out.
 pub fn agree(x: &[u16], y: &[u16]) -> usize
-    ensures { λ r. ⌜ r ≡ agreeing true (now (x .entry)) (now (y .entry)) ⌝ }
+    ensures { λ r. ⌜ r ≡ agreeing inWords (now (x .entry)) (now (y .entry)) ⌝ }
 {
     let n = bits::min(x.len(), y.len());
     let whole = n / 8;

@@ -1,4 +1,5 @@
--- What the two compares of the walk tell about their parts: their bits say where the parts are equal. Assumes nothing.
+-- What the two compares of the walk tell about their parts: their bits say where the parts are
+-- equal. Assumes nothing.
 use Prim.Native.Nat.{ℕ, _+_, _-_, _≤_, _<_}
 use mathlib.Core.Path.{_≡_, refl, sym, _∙_}
 use mathlib.Core.Bool.{Bool, true, false}
@@ -17,7 +18,7 @@ use Rattle.unit.specs.Operand.{count}
 use Rattle.unit.specs.Compare.{override, boolRes, intRes1, intRes2}
 use Rattle.unit.specs.Output.{indexOf}
 use Rattle.unit.specs.Calls.{PCMPESTRI}
-use Rattle.unit.specs.Parts.{follows, orderedOf}
+use Rattle.unit.specs.Modes.{follows, orderedOf}
 use Rattle.search.specs.Walk.{ordered}
 
 -- ---- the two compares, by their bits

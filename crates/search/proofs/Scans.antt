@@ -1,5 +1,5 @@
--- A scan is steps of the walk: past each block whose index is b the walk goes on, and the scan's last
--- index is that of the walk's compare there. Assumes nothing.
+-- A scan is steps of the walk: past each block whose index is b the walk goes on, and the scan's
+-- last index is that of the walk's compare there. Assumes nothing.
 use Prim.Native.Nat.{ℕ, zero, suc, _+_, _*_, _-_, _/_, _≤_, _<_, min}
 use mathlib.Core.Path.{_≡_, refl, sym, ap, _∙_}
 use mathlib.Core.Bool.{Bool, true, false, cond}
@@ -47,8 +47,8 @@ blocks-some false n i h e = omega arith
 least-is : (x n : ℕ) → x ≤ n → x ≡ min x n
 least-is x n h = omega arith
 
--- The scan s of the part of the text from the cursor's position to e. Up to e each whole block leaves
--- room for the needle, and the first is whole.
+-- The scan s of the part of the text from the cursor's position to e. Up to e each whole block
+-- leaves room for the needle, and the first is whole.
 pub record Scanning (words : Bool) (text needle first : List ℕ) (l : ℕ) (c : Cursor) (e : ℕ) (s : Scanned) : Type 0 where
   pub ready : Ready words text needle first l c
   pub end : e ≡ length text - (length needle - l)

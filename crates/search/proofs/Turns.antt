@@ -1,5 +1,5 @@
--- What one turn of the walk's loop comes to, on plain values and over the width: where a step leads,
--- and how the steps make up the walk. Assumes nothing.
+-- What one turn of the walk's loop comes to, on plain values and over the width: where a step
+-- leads, and how the steps make up the walk. Assumes nothing.
 use Prim.Native.Nat.{ℕ, suc, _+_, _-_, _≤_, _<_, min}
 use mathlib.Core.Path.{_≡_, refl, sym, ap, _∙_}
 use mathlib.Core.Bool.{Bool, true, false, cond}

@@ -27,8 +27,8 @@ pub record Searchable (text needle : List ℕ) : Type 0 where
   pub short : length needle ≤ longestNeedle
   pub some : 0 < length needle
 
--- The cursor's position leaves room for the needle, whose first piece has l elements; its compares are
--- few, those of a scan counted.
+-- The cursor's position leaves room for the needle, whose first piece has l elements; its compares
+-- are few, those of a scan counted.
 pub record Room (words : Bool) (text needle : List ℕ) (l : ℕ) (c : Cursor) : Type 0 where
   pub searchable : Searchable text needle
   pub room : c .position + length needle ≤ length text

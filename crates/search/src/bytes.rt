@@ -4,16 +4,17 @@ use crate::Next;
 use crate::Stepped;
 use blocks::padded_bytes;
 ghost use mathlib.Core.Path.{_≡_};
-ghost use mathlib.Core.Bool.{false};
 ghost use Prim.Native.Nat.{_+_};
+ghost use Rattle.unit.specs.Operand.{inBytes};
 ghost use Rattle.search.specs.Cursors.{nextMatch};
 ghost use Rattle.search.specs.Moves.{Walkable, Led, Ready, Room, ended, laterAt, rested, total};
 
 impl Cursor {
-    // The cursor after the needle's later pieces, where its first l bytes stand at the cursor's position.
+    // The cursor after the needle's later pieces, where its first l bytes stand at the cursor's
+    // position.
     fn rest_in_bytes(self, text: &[u8], needle: &[u8], l: usize) -> Stepped
-        requires { ⌜ Room false (now text) (now needle) l self ⌝ }
-        ensures { λ r. ⌜ r ≡ rested self (laterAt false (now (text .entry)) (now (needle .entry)) (self .position) 16) ⌝ }
+        requires { ⌜ Room inBytes (now text) (now needle) l self ⌝ }
+        ensures { λ r. ⌜ r ≡ rested self (laterAt inBytes (now (text .entry)) (now (needle .entry)) (self .position) 16) ⌝ }
     {
         let m = needle.len();
         let from = (self.position as usize) + l;
@@ -22,12 +23,11 @@ impl Cursor {
         self.rested(agreeing as u64, ((m - l + 15) / 16) as u64)
     }
 
-    // One step of the walk or more, at a position that leaves room for the needle: over whole blocks
-    // by a scan, up to e, so that each leaves room too; less than a block is the text's end and goes to
-    // the unit by itself. `first` is the operand of the needle's first l bytes.
+    // One step of the walk or more. Whole blocks go by a scan, up to e, so that each leaves room
+    // for the needle; less than one is the text's end. `first` is the operand of the first l bytes.
     fn step_in_bytes(self, text: &[u8], needle: &[u8], first: &[u8; 16], l: usize) -> Stepped
-        requires { ⌜ Ready false (now text) (now needle) (now first) l self ⌝ }
-        ensures { λ r. ⌜ Led false (now (text .entry)) (now (needle .entry)) self r ⌝ }
+        requires { ⌜ Ready inBytes (now text) (now needle) (now first) l self ⌝ }
+        ensures { λ r. ⌜ Led inBytes (now (text .entry)) (now (needle .entry)) self r ⌝ }
     {
         let p = self.position as usize;
         let e = text.len() - (needle.len() - l);
@@ -50,8 +50,8 @@ impl Cursor {
 
     // The walk from the cursor's position, for a needle whose first piece has l bytes.
     fn walk_in_bytes(self, text: &[u8], needle: &[u8], l: usize) -> Next
-        requires { ⌜ Walkable false (now text) (now needle) l self ⌝ }
-        ensures { λ r. ⌜ r ≡ ended self (total false (now (text .entry)) (now (needle .entry)) self) ⌝ }
+        requires { ⌜ Walkable inBytes (now text) (now needle) l self ⌝ }
+        ensures { λ r. ⌜ r ≡ ended self (total inBytes (now (text .entry)) (now (needle .entry)) self) ⌝ }
     {
         let n = text.len();
         let m = needle.len();
@@ -71,10 +71,10 @@ impl Cursor {
         self.absent(at.compares)
     }
 
-    // The next match of a needle of bytes (document 01: next hit). The walk is called in two places, so
-    // that the compiler keeps it apart and this call small.
+    // The next match of a needle of bytes (document 01: next hit). The walk is called in two places
+    // for speed (docs/PERFORMANCE.md).
     pub fn next_in_bytes(self, text: &[u8], needle: &[u8]) -> Next
-        ensures { λ r. ⌜ r ≡ nextMatch false (now (text .entry)) (now (needle .entry)) self ⌝ }
+        ensures { λ r. ⌜ r ≡ nextMatch inBytes (now (text .entry)) (now (needle .entry)) self ⌝ }
     {
         let number = self.refusal(text.len(), needle.len());
         if number > 0 {

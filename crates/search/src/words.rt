@@ -4,16 +4,17 @@ use crate::Next;
 use crate::Stepped;
 use blocks::padded_words;
 ghost use mathlib.Core.Path.{_≡_};
-ghost use mathlib.Core.Bool.{true};
 ghost use Prim.Native.Nat.{_+_};
+ghost use Rattle.unit.specs.Operand.{inWords};
 ghost use Rattle.search.specs.Cursors.{nextMatch};
 ghost use Rattle.search.specs.Moves.{Walkable, Led, Ready, Room, ended, laterAt, rested, total};
 
 impl Cursor {
-    // The cursor after the needle's later pieces, where its first l words stand at the cursor's position.
+    // The cursor after the needle's later pieces, where its first l words stand at the cursor's
+    // position.
     fn rest_in_words(self, text: &[u16], needle: &[u16], l: usize) -> Stepped
-        requires { ⌜ Room true (now text) (now needle) l self ⌝ }
-        ensures { λ r. ⌜ r ≡ rested self (laterAt true (now (text .entry)) (now (needle .entry)) (self .position) 8) ⌝ }
+        requires { ⌜ Room inWords (now text) (now needle) l self ⌝ }
+        ensures { λ r. ⌜ r ≡ rested self (laterAt inWords (now (text .entry)) (now (needle .entry)) (self .position) 8) ⌝ }
     {
         let m = needle.len();
         let from = (self.position as usize) + l;
@@ -22,12 +23,11 @@ impl Cursor {
         self.rested(agreeing as u64, ((m - l + 7) / 8) as u64)
     }
 
-    // One step of the walk or more, at a position that leaves room for the needle: over whole blocks
-    // by a scan, up to e, so that each leaves room too; less than a block is the text's end and goes to
-    // the unit by itself. `first` is the operand of the needle's first l words.
+    // One step of the walk or more. Whole blocks go by a scan, up to e, so that each leaves room
+    // for the needle; less than one is the text's end. `first` is the operand of the first l words.
     fn step_in_words(self, text: &[u16], needle: &[u16], first: &[u8; 16], l: usize) -> Stepped
-        requires { ⌜ Ready true (now text) (now needle) (now first) l self ⌝ }
-        ensures { λ r. ⌜ Led true (now (text .entry)) (now (needle .entry)) self r ⌝ }
+        requires { ⌜ Ready inWords (now text) (now needle) (now first) l self ⌝ }
+        ensures { λ r. ⌜ Led inWords (now (text .entry)) (now (needle .entry)) self r ⌝ }
     {
         let p = self.position as usize;
         let e = text.len() - (needle.len() - l);
@@ -50,8 +50,8 @@ impl Cursor {
 
     // The walk from the cursor's position, for a needle whose first piece has l words.
     fn walk_in_words(self, text: &[u16], needle: &[u16], l: usize) -> Next
-        requires { ⌜ Walkable true (now text) (now needle) l self ⌝ }
-        ensures { λ r. ⌜ r ≡ ended self (total true (now (text .entry)) (now (needle .entry)) self) ⌝ }
+        requires { ⌜ Walkable inWords (now text) (now needle) l self ⌝ }
+        ensures { λ r. ⌜ r ≡ ended self (total inWords (now (text .entry)) (now (needle .entry)) self) ⌝ }
     {
         let n = text.len();
         let m = needle.len();
@@ -70,10 +70,10 @@ impl Cursor {
         self.absent(at.compares)
     }
 
-    // The next match of a needle of words (document 01: next hit). The walk is called in two places, so
-    // that the compiler keeps it apart and this call small.
+    // The next match of a needle of words (document 01: next hit). The walk is called in two places
+    // for speed (docs/PERFORMANCE.md).
     pub fn next_in_words(self, text: &[u16], needle: &[u16]) -> Next
-        ensures { λ r. ⌜ r ≡ nextMatch true (now (text .entry)) (now (needle .entry)) self ⌝ }
+        ensures { λ r. ⌜ r ≡ nextMatch inWords (now (text .entry)) (now (needle .entry)) self ⌝ }
     {
         let number = self.refusal(text.len(), needle.len());
         if number > 0 {

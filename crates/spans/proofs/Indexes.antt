@@ -25,7 +25,7 @@ use Rattle.unit.proofs.Unit.{any-bit, ranges-bit}
 use Rattle.blocks.specs.Blocks.{operandOf, compareIndex}
 use Rattle.blocks.proofs.Compares.{part-size, parts-index}
 use Rattle.spans.specs.Spans.{spanLength}
-use Rattle.spans.specs.Parts.{belongs, spanControl, block, frontIndex}
+use Rattle.spans.specs.BlockFront.{belongs, spanControl, block, frontIndex}
 
 -- ---- one block
 

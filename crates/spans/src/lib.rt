@@ -13,7 +13,7 @@ pub mod words;
 use stages::operand;
 ghost use mathlib.Core.Path.{_≡_};
 ghost use Rattle.spans.specs.Spans.{setRefusal, boundsRefusal};
-ghost use Rattle.spans.specs.Parts.{spanControl};
+ghost use Rattle.spans.specs.BlockFront.{spanControl};
 
 // Refusals, by the numbers of document 01: a set or a list of bounds with more elements than an
 // operand holds, and a list of bounds with an odd count.

@@ -9,7 +9,7 @@ ghost use mathlib.Core.Path.{_≡_};
 ghost use Prim.Native.Nat.{_≤_};
 ghost use Rattle.unit.specs.Operand.{count};
 ghost use Rattle.unit.specs.Output.{refusedIndex};
-ghost use Rattle.unit.specs.Parts.{flagsRead, indexRead};
+ghost use Rattle.unit.specs.Readings.{flagsRead, indexRead};
 
 // The least or the greatest set bit, or b.
 fn index_of(high: bool, b: usize, bits: u32) -> u32

@@ -6,13 +6,13 @@ use unit::Compared;
 use unit::Control;
 use unit::MaskAnswer;
 ghost use mathlib.Core.Path.{_≡_};
-ghost use mathlib.Core.Bool.{cond, false, true};
+ghost use mathlib.Core.Bool.{cond};
 ghost use mathlib.Core.List.{_∷_};
 ghost use Prim.Native.Nat.{_/_, _%_};
 ghost use lib.ListN.{replicate};
-ghost use Rattle.unit.specs.Operand.{count};
+ghost use Rattle.unit.specs.Operand.{count, inBytes, inWords};
 ghost use Rattle.unit.specs.Output.{refusedMask};
-ghost use Rattle.unit.specs.Parts.{elementRead, flagsRead, maskRead};
+ghost use Rattle.unit.specs.Readings.{elementRead, flagsRead, maskRead};
 
 // The bits in the first two bytes, low byte first.
 fn bit_mask(bits: u32) -> [u8; 16]
@@ -33,7 +33,7 @@ fn filled(bit: bool) -> u8
 
 // Each bit fills its byte.
 fn byte_mask(bits: u32) -> [u8; 16]
-    ensures { λ r. ⌜ r ≡ elementRead false bits ⌝ }
+    ensures { λ r. ⌜ r ≡ elementRead inBytes bits ⌝ }
 {
     let mut mask = [0u8; 16];
     let mut i = 0;
@@ -46,7 +46,7 @@ fn byte_mask(bits: u32) -> [u8; 16]
 
 // Each bit fills the two bytes of its word.
 fn word_mask(bits: u32) -> [u8; 16]
-    ensures { λ r. ⌜ r ≡ elementRead true bits ⌝ }
+    ensures { λ r. ⌜ r ≡ elementRead inWords bits ⌝ }
 {
     let mut mask = [0u8; 16];
     let mut i = 0;

@@ -8,7 +8,8 @@ ghost use Rattle.bits.specs.Bits.{numberOf};
 ghost use Rattle.unit.specs.Operand.{count};
 ghost use Rattle.unit.specs.Compare.{withPolarity};
 
-// The bits of IntRes1 that the polarity negates: none, all b, or those of operand 2's valid elements.
+// The bits of IntRes1 that the polarity negates: none, all b, or those of operand 2's valid
+// elements.
 pub fn negated(p: Polarity, words: bool, l2: usize) -> u32
     ensures { λ r. ⌜ r ≡ numberOf (count words) (λ j. withPolarity p (ltb j l2) false) ⌝ }
 {

@@ -3,7 +3,7 @@ use unit::Compared;
 use unit::Flags;
 ghost use mathlib.Core.Path.{_≡_};
 ghost use Rattle.unit.specs.Output.{noFlags};
-ghost use Rattle.unit.specs.Parts.{flagsRead};
+ghost use Rattle.unit.specs.Readings.{flagsRead};
 
 // The flags of an accepted call, for operands of b elements.
 pub fn flags_of(b: usize, t: Compared) -> Flags

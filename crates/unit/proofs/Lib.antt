@@ -1,4 +1,5 @@
--- The theorem on valid elements with what it rests on, and the laws that the proofs of functions cite.
+-- The theorem on valid elements with what it rests on, and the laws that the proofs of functions
+-- cite.
 pub mod Forced
 pub mod ValidElements
 pub mod Signs

@@ -19,7 +19,7 @@ use Rattle.bits.proofs.Lists.{getD-tabulate, tabulate-same}
 use Rattle.bits.proofs.Numbers.{number-and, number-both, number-or, number-xor, number-cut, number-shift, number-bit, number-zero, number-bits, no-bits}
 use Rattle.unit.specs.declared.Aggregation.the-variants.{EqualEach, EqualOrdered}
 use Rattle.unit.specs.Compare.{override}
-use Rattle.unit.specs.Parts.{isIn, anyOf, between, inRange, rangesOf, eachOf, follows, orderedOf}
+use Rattle.unit.specs.Modes.{isIn, anyOf, between, inRange, rangesOf, eachOf, follows, orderedOf}
 
 -- `bits::first(l)` in a number of b bits
 pub first-cut : (b l v : ℕ) → b ≤ 16 → l ≤ b → v ≡ numberOf 16 (λ j. ltb j l) → v ≡ numberOf b (λ j. ltb j l)

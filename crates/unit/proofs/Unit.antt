@@ -30,7 +30,8 @@ use Rattle.unit.specs.Operand.{count, valueOf, elements, explicitLength,
 use Rattle.unit.specs.Calls.{explicit, implicit, PCMPESTRI}
 use Rattle.unit.specs.Compare.{Operands, operands, override, compared, withPolarity, boolRes, intRes1, intRes2}
 use Rattle.unit.specs.Output.{indexOf, bitMask, elementMask, maskOf, flagsOf, indexAnswer, maskAnswer, refusedIndex, refusedMask}
-use Rattle.unit.specs.Parts.{anyOf, between, rangesOf, eachOf, orderedOf, comparedOf, flagsRead, indexRead, elementRead, maskRead}
+use Rattle.unit.specs.Modes.{anyOf, between, rangesOf, eachOf, orderedOf}
+use Rattle.unit.specs.Readings.{comparedOf, flagsRead, indexRead, elementRead, maskRead}
 use Rattle.unit.proofs.Modes.{first-cut}
 
 pub count-most : (w : Bool) → count w ≤ 16

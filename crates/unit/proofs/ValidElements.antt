@@ -1,7 +1,6 @@
--- The answer depends on the control, the effective lengths and the valid elements only: any two
--- index calls, and any two mask calls, explicit or implicit, that agree on these (specs/Agree.antt)
--- answer alike in every bit. Table 5-7 is the reason (Forced.antt): a comparison counts only where both
--- of its elements are valid. Assumes nothing.
+-- Any two index calls, and any two mask calls, explicit or implicit, that agree on the control, the
+-- effective lengths and the valid elements (specs/Agree.antt) answer alike in every bit: a
+-- comparison counts only where both of its elements are valid (Forced.antt). Assumes nothing.
 use Prim.Native.Nat.{ℕ, _<_, _/_, _%_}
 use mathlib.Core.Path.{_≡_, refl, sym, ap, _∙_}
 use mathlib.Core.Bool.{Bool, true, false, cond}

@@ -1,4 +1,5 @@
--- Read in this order: the control byte, the operands, the comparison, the output, the calls.
+-- Read in this order: the control byte, the operands, the comparison, the output, the calls, what
+-- calls that agree are, the worked examples. `Modes` and `Readings` are for private contracts.
 pub mod Control
 pub mod Operand
 pub mod Compare
@@ -6,4 +7,5 @@ pub mod Output
 pub mod Calls
 pub mod Agree
 pub mod Specimens
-pub mod Parts
+pub mod Modes
+pub mod Readings

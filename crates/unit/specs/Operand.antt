@@ -8,10 +8,16 @@ use lib.ListN.{getD}
 use lib.IntN.{ℤ, pos, natAbs, _-ℤ_}
 use Rattle.bits.specs.Bits.{tabulate}
 
+-- The two widths. A definition over the width takes it as a truth value, `words`.
+abbrev pub inBytes : Bool
+inBytes = false
+
+abbrev pub inWords : Bool
+inWords = true
+
 -- b, how many elements an operand has: 8 words or 16 bytes
 abbrev pub count : Bool → ℕ
-count true = 8
-count false = 16
+count words = cond words 8 16
 
 -- word i of sixteen bytes, low byte first
 abbrev pub wordAt : List ℕ → ℕ → ℕ
@@ -21,13 +27,11 @@ unfoldable pub wordsOf : List ℕ → List ℕ
 wordsOf bytes = tabulate 8 (wordAt bytes)
 
 abbrev pub elements : Bool → List ℕ → List ℕ
-elements true bytes = wordsOf bytes
-elements false bytes = bytes
+elements words bytes = cond words (wordsOf bytes) bytes
 
 -- how many bits an element has
 abbrev pub bitsOf : Bool → ℕ
-bitsOf true = 16
-bitsOf false = 8
+bitsOf words = cond words 16 8
 
 -- what an element stands for, in two's complement where signed
 abbrev pub valueOf : Bool → Bool → ℕ → ℤ

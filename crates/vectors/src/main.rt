@@ -1,9 +1,10 @@
-// Runs the four calls of `pcmpstr` over generated blocks and prints a digest of the answers: a line for each call and each control from
-// 00h to 7Fh, as `pcmpestri 0c 0123456789abcdef`. A block is two operands and two lengths; a control has 256 blocks, the same for the
-// four calls.
+// Runs the four calls of `pcmpstr` over generated blocks and prints a digest of the answers: a line
+// for each call and each control from 00h to 7Fh, as `pcmpestri 0c 0123456789abcdef`. A block is
+// two operands and two lengths; a control has 256 blocks, the same for the four calls.
 //
-// The expected output, the file `stdout` of this crate, was not made by this program. A processor that has the instructions made it, by
-// tests/vectors/silicon.c, which draws the same blocks and folds the answers in the same order. What is changed here is changed there.
+// The expected output, the file `stdout` of this crate, was not made by this program. A processor
+// that has the instructions made it, by tests/vectors/silicon.c, which draws the same blocks and
+// folds the answers in the same order. What is changed here is changed there.
 
 // Where the generator and every digest start. Any number but 0 would do.
 const SEED: u64 = 0x9e3779b97f4a7c15;
@@ -11,7 +12,8 @@ const SEED: u64 = 0x9e3779b97f4a7c15;
 // The bytes at which a signed or unsigned order, or an end of string, is easily mistaken.
 const EDGES: [u8; 8] = [0x00, 0x01, 0x7e, 0x7f, 0x80, 0x81, 0xfe, 0xff];
 
-// Explicit lengths: within an operand of bytes or words, at its end, past it, negative, and the two ends of the type.
+// Explicit lengths: within an operand of bytes or words, at its end, past it, negative, and the two
+// ends of the type.
 const LENGTHS: [i32; 23] = [
     0,
     1,
@@ -68,7 +70,8 @@ fn next(state: u64) -> u64 {
     b ^ (b << 17)
 }
 
-// The digest with one more number in it. `next` loses nothing, so a single wrong number always shows.
+// The digest with one more number in it. `next` loses nothing, so a single wrong number always
+// shows.
 fn fold(digest: u64, number: u64) -> u64 {
     next(digest ^ number)
 }
@@ -115,7 +118,8 @@ fn wide(byte: u8) -> u64 {
     byte as u64
 }
 
-// A byte of one of four alphabets: any byte, two letters, the edges, or four letters with zeros between, which end an implicit length.
+// A byte of one of four alphabets: any byte, two letters, the edges, or four letters with zeros
+// between, which end an implicit length.
 fn letter(alphabet: u64, draw: u64) -> u8 {
     match alphabet {
         0 => (draw % 256) as u8,
@@ -151,7 +155,8 @@ fn near(text: [u8; 16], draw: u64) -> [u8; 16] {
     bytes
 }
 
-// One to eight bytes of `text`, then zeros. A needle that starts near the end of `text` goes on at its front, and so matches in part.
+// One to eight bytes of `text`, then zeros. A needle that starts near the end of `text` goes on at
+// its front, and so matches in part.
 fn needle(text: [u8; 16], draw: u64) -> [u8; 16] {
     let mut bytes = [0u8; 16];
     let at = (draw % 16) as usize;
@@ -162,7 +167,8 @@ fn needle(text: [u8; 16], draw: u64) -> [u8; 16] {
     bytes
 }
 
-// Operand 1 by its relation to operand 2: another draw, the same bytes, all but one the same, or a needle in it.
+// Operand 1 by its relation to operand 2: another draw, the same bytes, all but one the same, or a
+// needle in it.
 fn related(relation: u64, text: [u8; 16], other: [u8; 16], draw: u64) -> [u8; 16] {
     match relation {
         0 => other,
@@ -177,7 +183,8 @@ fn length(draw: u64) -> i32 {
     LENGTHS[(draw % 23) as usize]
 }
 
-// The block of a number: the number picks the alphabet and the relation, so that sixteen blocks have all pairs of them.
+// The block of a number: the number picks the alphabet and the relation, so that sixteen blocks
+// have all pairs of them.
 fn generate(number: u64, start: u64) -> Block {
     let text = operand(number % 4, start);
     let operand2 = text.bytes;

@@ -1,5 +1,5 @@
--- `alike::alike_bytes` meets its contract: the two halves are the low and the high eight bits of one
--- number. Assumes nothing.
+-- `alike::alike_bytes` meets its contract: the two halves are the low and the high eight bits of
+-- one number. Assumes nothing.
 use borrow.Author.Needs.{needs}
 use native.Mathlib.Omega.{arith}
 use lib.Dec.{eqb}

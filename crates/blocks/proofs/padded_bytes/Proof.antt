@@ -1,4 +1,5 @@
--- `blocks::padded_bytes` meets its contract: zeros with the part written over them. Assumes nothing.
+-- `blocks::padded_bytes` meets its contract: zeros with the part written over them. Assumes
+-- nothing.
 use borrow.Author.Needs.{needs}
 use Rattle.blocks.proofs.Operands.{filled-zeros}
 use Rattle.blocks.proofs.padded_bytes.Statement.{statement}

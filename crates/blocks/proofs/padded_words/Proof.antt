@@ -1,4 +1,5 @@
--- `blocks::padded_words` meets its contract. The invariant: the first 2 i bytes are the operand's, the others zero. Assumes nothing.
+-- `blocks::padded_words` meets its contract. The invariant: the first 2 i bytes are the operand's,
+-- the others zero. Assumes nothing.
 use Prim.Native.Nat.{ℕ, _+_, _*_, _-_, _≤_}
 use mathlib.Core.Path.{_≡_, refl, ap, _∙_}
 use mathlib.Core.Bool.{true}

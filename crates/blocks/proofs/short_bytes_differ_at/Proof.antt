@@ -1,4 +1,5 @@
--- `blocks::short_bytes_differ_at` meets its contract: the operands are those of the two parts, and the lengths theirs. Assumes nothing.
+-- `blocks::short_bytes_differ_at` meets its contract: the operands are those of the two parts, and
+-- the lengths theirs. Assumes nothing.
 use mathlib.Core.Path.{refl, _∙_}
 use mathlib.Core.Bool.{false}
 use borrow.Author.Needs.{needs}

@@ -1,4 +1,5 @@
--- `blocks::whole_bytes` meets its contract: a whole part's reads are the operand's bytes, one by one, and a shorter part is padded. Assumes nothing.
+-- `blocks::whole_bytes` meets its contract: a whole part's reads are the operand's bytes, one by
+-- one, and a shorter part is padded. Assumes nothing.
 use mathlib.Core.Path.{refl}
 use borrow.Author.Needs.{needs}
 use Rattle.bits.specs.Bits.{tabulate}

@@ -1,4 +1,5 @@
--- `blocks::whole_words` meets its contract: a whole part's words give the operand's bytes, two by two, and a shorter part is padded. Assumes nothing.
+-- `blocks::whole_words` meets its contract: a whole part's words give the operand's bytes, two by
+-- two, and a shorter part is padded. Assumes nothing.
 use mathlib.Core.List.{[], _∷_}
 use borrow.Author.Needs.{needs}
 use Rattle.bits.specs.Bits.{tabulate}

@@ -1,4 +1,5 @@
--- `blocks::words_differ_at` meets its contract: either way the operands are those of the two parts, and the lengths theirs. Assumes nothing.
+-- `blocks::words_differ_at` meets its contract: either way the operands are those of the two parts,
+-- and the lengths theirs. Assumes nothing.
 use mathlib.Core.Path.{ap, _∙_}
 use mathlib.Core.Bool.{true}
 use lib.IntN.{pos}

@@ -1,5 +1,6 @@
--- `decimal::digit_count` meets its contract. The invariant: ten times `power` is 10 ^ count, and the number has at least `count` digits, since it is not below the powers
--- passed. It has no more once it is below the next power, or once `count` is 20. Assumes nothing.
+-- `decimal::digit_count` meets its contract. The invariant: ten times `power` is 10 ^ count, and
+-- the number has at least `count` digits, since it is not below the powers passed. It has no more
+-- once it is below the next power, or once `count` is 20. Assumes nothing.
 use Prim.Native.Nat.{ℕ, _+_, _-_, _*_, _^_, _≤_}
 use mathlib.Core.Path.{_≡_, refl}
 use native.Mathlib.Nat.{pow-suc, pow-le-pow-right}

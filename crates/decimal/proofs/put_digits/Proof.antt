@@ -1,4 +1,5 @@
--- `decimal::put_digits` meets its contract. The invariant: with the digits of `rest` put before `at`, the buffer becomes what the contract says. Assumes nothing.
+-- `decimal::put_digits` meets its contract. The invariant: with the digits of `rest` put before
+-- `at`, the buffer becomes what the contract says. Assumes nothing.
 use Prim.Native.Nat.{ℕ, _+_, _-_, _/_, _≤_, _<_}
 use mathlib.Core.Path.{_≡_, refl, ap, _∙_}
 use native.Mathlib.Omega.{arith}

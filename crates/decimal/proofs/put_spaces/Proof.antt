@@ -1,4 +1,5 @@
--- `decimal::put_spaces` meets its contract. The invariant: the first i bytes are spaces, the others as they were. Assumes nothing.
+-- `decimal::put_spaces` meets its contract. The invariant: the first i bytes are spaces, the others
+-- as they were. Assumes nothing.
 use Prim.Native.Nat.{ℕ, _≤_, _-_}
 use mathlib.Core.Path.{_≡_, refl, ap, _∙_}
 use mathlib.Core.List.{List, _++_}

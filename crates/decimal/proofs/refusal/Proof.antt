@@ -1,4 +1,5 @@
--- `decimal::refusal` meets its contract: each of its tests decides one of the definition's. Assumes nothing.
+-- `decimal::refusal` meets its contract: each of its tests decides one of the definition's. Assumes
+-- nothing.
 use mathlib.Core.Path.{sym}
 use native.Mathlib.Omega.{arith}
 use Rattle.decimal.proofs.Columns.{too-narrow, too-wide, too-short, no-refusal}

@@ -1,5 +1,6 @@
--- `decimal::right_justified` meets its contract. Accepted, the digits fit the width and the width the buffer (`fits`), and spaces in the whole width with the digits at
--- its end are the column; refused, nothing is stored. Assumes nothing.
+-- `decimal::right_justified` meets its contract. Accepted, the digits fit the width and the width
+-- the buffer (`fits`), and spaces in the whole width with the digits at its end are the column;
+-- refused, nothing is stored. Assumes nothing.
 use Prim.Native.Nat.{ℕ, _≤_}
 use mathlib.Core.Path.{_≡_, sym, ap, _∙_}
 use mathlib.Core.List.{List}

@@ -1,4 +1,5 @@
--- `hits::read_input` is safe, ends, and counts bytes of the buffer. The invariant: so many bytes are within the buffer, which is as long as it was. Assumes nothing.
+-- `hits::read_input` is safe, ends, and counts bytes of the buffer. The invariant: so many bytes
+-- are within the buffer, which is as long as it was. Assumes nothing.
 use Prim.Native.Nat.{ℕ, _+_, _-_, _≤_}
 use mathlib.Core.Path.{_≡_, refl, subst, _∙_}
 use native.Mathlib.Omega.{arith}

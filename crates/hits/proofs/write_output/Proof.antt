@@ -1,4 +1,5 @@
--- `hits::write_output` is safe and ends: each turn writes one byte or more of what is left. Assumes nothing.
+-- `hits::write_output` is safe and ends: each turn writes one byte or more of what is left. Assumes
+-- nothing.
 use Prim.Native.Nat.{_-_, _≤_}
 use native.Mathlib.Omega.{arith}
 use lib.ListN.{length}

@@ -1,4 +1,5 @@
--- `report::feed_at` meets its contract. The invariant: the count is `i` and that of what is left from `i` on. Assumes nothing.
+-- `report::feed_at` meets its contract. The invariant: the count is `i` and that of what is left
+-- from `i` on. Assumes nothing.
 use Prim.Native.Nat.{_+_, _-_, _≤_}
 use mathlib.Core.Path.{_≡_}
 use native.Mathlib.Omega.{arith}

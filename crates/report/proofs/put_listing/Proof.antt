@@ -1,5 +1,5 @@
--- `report::put_listing` meets its contract: the lines of all matches are on the page, and the totals go
--- after them. Assumes nothing.
+-- `report::put_listing` meets its contract: the lines of all matches are on the page, and the
+-- totals go after them. Assumes nothing.
 use Prim.Native.Nat.{_+_, _*_, _≤_}
 use native.Mathlib.Omega.{arith}
 use lib.ListN.{length, length-drop}

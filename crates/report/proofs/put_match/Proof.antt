@@ -1,5 +1,5 @@
--- `report::put_match` meets its contract: the writer of a line has the part of the page from its own
--- byte on. Assumes nothing.
+-- `report::put_match` meets its contract: the writer of a line has the part of the page from its
+-- own byte on. Assumes nothing.
 use native.Mathlib.Omega.{arith}
 use mathlib.Core.Path.{sym, ap, _∙_}
 use lib.ListN.{length-drop}
@@ -7,7 +7,7 @@ use borrow.Author.Needs.{needs}
 use Rattle.decimal.proofs.Pages.{tail, part-put}
 use Rattle.search.specs.declared.Next.{Next}
 use Rattle.report.specs.Report.{numberLine}
-use Rattle.report.specs.Parts.{withMatch}
+use Rattle.report.specs.Writers.{withMatch}
 use Rattle.report.proofs.put_match.Statement.{statement}
 use Rattle.report.proofs.put_match.Tie as tie
 

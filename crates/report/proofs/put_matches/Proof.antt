@@ -1,6 +1,6 @@
--- `report::put_matches` meets its contract. The invariant: the cursor is the one after as many calls
--- as there are matches so far, and one more where absent was said; and the page has the lines of the
--- matches so far. A turn is `turned`, the end `found-all`. Assumes nothing.
+-- `report::put_matches` meets its contract. The invariant: the cursor is the one after as many
+-- calls as there are matches so far, and one more where absent was said; and the page has the lines
+-- of the matches so far. A turn is `turned`, the end `found-all`. Assumes nothing.
 use Prim.Native.Nat.{_≤_, _<_}
 use mathlib.Core.Path.{_≡_, refl, sym, subst, _∙_}
 use mathlib.Core.Bool.{Bool, true}

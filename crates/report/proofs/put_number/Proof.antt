@@ -1,4 +1,5 @@
--- `report::put_number` meets its contract: the number is below 10 ^ 8, so it is written in its 8 columns, and the line feed is stored after them. Assumes nothing.
+-- `report::put_number` meets its contract: the number is below 10 ^ 8, so it is written in its 8
+-- columns, and the line feed is stored after them. Assumes nothing.
 use mathlib.Core.Path.{ap, _∙_}
 use mathlib.Core.List.{List}
 use Prim.Native.Nat.{ℕ}

@@ -1,5 +1,6 @@
--- `report::put_totals` meets its contract: both numbers fit their columns, the second is written into the part of the page after the first, and the line feed is
--- stored after both. Assumes nothing.
+-- `report::put_totals` meets its contract: both numbers fit their columns, the second is written
+-- into the part of the page after the first, and the line feed is stored after both. Assumes
+-- nothing.
 use mathlib.Core.Path.{ap, _∙_}
 use borrow.Author.Needs.{needs}
 use lib.ListN.{length}

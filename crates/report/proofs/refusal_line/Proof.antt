@@ -1,5 +1,5 @@
--- `report::refusal_line` meets its contract: a number that fits its columns is written in them, another
--- leaves the spaces, and the line feed is stored after both. Assumes nothing.
+-- `report::refusal_line` meets its contract: a number that fits its columns is written in them,
+-- another leaves the spaces, and the line feed is stored after both. Assumes nothing.
 use mathlib.Core.Path.{ap, _∙_}
 use mathlib.Core.List.{List}
 use Prim.Native.Nat.{ℕ}

@@ -1,4 +1,5 @@
--- `scan::unasked` meets its contract. The invariant: the first k places of the rows are filled. Assumes nothing.
+-- `scan::unasked` meets its contract. The invariant: the first k places of the rows are filled.
+-- Assumes nothing.
 use Prim.Native.Nat.{_≤_, _-_}
 use mathlib.Core.Path.{_≡_, refl}
 use lib.ListN.{length, take}

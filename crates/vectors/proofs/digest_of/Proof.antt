@@ -1,4 +1,5 @@
--- `vectors::digest_of` is safe and ends: `number` goes from 0 to 256, and no call asks anything. Assumes nothing.
+-- `vectors::digest_of` is safe and ends: `number` goes from 0 to 256, and no call asks anything.
+-- Assumes nothing.
 use Prim.Native.Nat.{_≤_, _-_}
 use native.Mathlib.Omega.{arith}
 use Rattle.vectors.proofs.digest_of.Statement.{statement}

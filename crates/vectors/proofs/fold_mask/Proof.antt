@@ -1,4 +1,5 @@
--- `vectors::fold_mask` is safe and ends: `i` goes from 0 to 16, and each index read is below 16. Assumes nothing.
+-- `vectors::fold_mask` is safe and ends: `i` goes from 0 to 16, and each index read is below 16.
+-- Assumes nothing.
 use Prim.Native.Nat.{_≤_, _-_}
 use native.Mathlib.Omega.{arith}
 use Rattle.vectors.proofs.fold_mask.Statement.{statement}

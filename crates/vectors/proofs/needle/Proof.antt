@@ -1,5 +1,5 @@
--- `vectors::needle` is safe and ends: `at` is below 16 and `size` at most 8, so every index written is below 8 and every index read below 16.
--- The loop ends since `size - i` falls. Assumes nothing.
+-- `vectors::needle` is safe and ends: `at` is below 16 and `size` at most 8, so every index written
+-- is below 8 and every index read below 16. The loop ends since `size - i` falls. Assumes nothing.
 use Prim.Native.Nat.{_≤_, _<_, _-_}
 use native.Mathlib.Omega.{arith}
 use Rattle.vectors.proofs.needle.Statement.{statement}

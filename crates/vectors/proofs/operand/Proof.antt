@@ -1,4 +1,5 @@
--- `vectors::operand` is safe and ends: `i` goes from 0 to 16, and each index written is below 16. Assumes nothing.
+-- `vectors::operand` is safe and ends: `i` goes from 0 to 16, and each index written is below 16.
+-- Assumes nothing.
 use Prim.Native.Nat.{_≤_, _-_}
 use native.Mathlib.Omega.{arith}
 use Rattle.vectors.proofs.operand.Statement.{statement}

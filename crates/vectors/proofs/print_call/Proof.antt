@@ -1,4 +1,5 @@
--- `vectors::print_call` is safe and ends: `control` goes from 0 to 128, and no call asks anything. Assumes nothing.
+-- `vectors::print_call` is safe and ends: `control` goes from 0 to 128, and no call asks anything.
+-- Assumes nothing.
 use Prim.Native.Nat.{_≤_, _-_}
 use native.Mathlib.Omega.{arith}
 use Rattle.vectors.proofs.print_call.Statement.{statement}

@@ -1,4 +1,5 @@
--- The second text is the smaller just where the order is above 0, which is how the definition has it. Assumes nothing.
+-- The second text is the smaller just where the order is above 0, which is how the definition has
+-- it. Assumes nothing.
 use borrow.Author.Needs.{needs}
 use mathlib.Core.Path.{ap, subst, _∙_}
 use mathlib.Core.Bool.{Bool, false}

@@ -1,4 +1,5 @@
--- What is handed on is the answer of the search from the cursor that the three numbers stand for. Assumes nothing.
+-- What is handed on is the answer of the search from the cursor that the three numbers stand for.
+-- Assumes nothing.
 use borrow.Author.Needs.{needs}
 use mathlib.Core.Path.{ap, subst, _∙_}
 use mathlib.Core.Bool.{false}

@@ -8,7 +8,7 @@ use native.Mathlib.Omega.{arith}
 use borrow.Author.Needs.{needs}
 use Rattle.bits.specs.Bits.{numberOf}
 use Rattle.bits.proofs.Numbers.{number-xor, sixteen-ones}
-use Rattle.unit.specs.Parts.{eachOf}
+use Rattle.unit.specs.Modes.{eachOf}
 use Rattle.unit.proofs.Modes.{each-made, differ-made}
 use Rattle.modes.proofs.bytes.differ.Statement.{statement}
 use Rattle.modes.proofs.bytes.differ.Tie as tie

@@ -5,7 +5,7 @@ use mathlib.Core.Bool.{false, not}
 use lib.IntN.{pos}
 use native.Mathlib.Omega.{arith}
 use Rattle.bits.proofs.Numbers.{least-read}
-use Rattle.unit.specs.Parts.{eachOf}
+use Rattle.unit.specs.Modes.{eachOf}
 use Rattle.unit.proofs.Unit.{cut-explicit, differ-index}
 use borrow.Author.Needs.{needs}
 use Rattle.modes.proofs.bytes.index_18.Statement.{statement}

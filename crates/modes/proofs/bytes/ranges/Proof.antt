@@ -6,7 +6,7 @@ use mathlib.Core.Bool.{cond, false}
 use lib.ListN.{getD}
 use Rattle.bits.specs.Bits.{tabulate}
 use Rattle.unit.specs.Operand.{valueOf}
-use Rattle.unit.specs.Parts.{inRange}
+use Rattle.unit.specs.Modes.{inRange}
 use Rattle.unit.proofs.Modes.{row-start, row-more, ranges-made}
 use borrow.Author.Needs.{needs}
 use native.Mathlib.Omega.{arith}

@@ -9,7 +9,7 @@ use mir.Syntax.{w16}
 use mir.ValLaws.{toZ-ofZ}
 use Rattle.bits.specs.Bits.{tabulate}
 use Rattle.unit.specs.Operand.{valueOf}
-use Rattle.unit.specs.Parts.{between}
+use Rattle.unit.specs.Modes.{between}
 use Rattle.bits.proofs.Lists.{fill, filled}
 use borrow.Author.Needs.{needs}
 use native.Mathlib.Omega.{arith}

@@ -8,7 +8,7 @@ use native.Mathlib.Omega.{arith}
 use borrow.Author.Needs.{needs}
 use Rattle.bits.specs.Bits.{leastBelow}
 use Rattle.bits.proofs.Numbers.{eight-ones, least-read, number-xor}
-use Rattle.unit.specs.Parts.{eachOf}
+use Rattle.unit.specs.Modes.{eachOf}
 use Rattle.modes.proofs.words.differ_at.Statement.{statement}
 use Rattle.modes.proofs.words.differ_at.Tie as tie
 

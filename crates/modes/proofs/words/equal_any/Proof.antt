@@ -4,7 +4,7 @@
 use Prim.Native.Nat.{_≤_, _+_, _-_}
 use mathlib.Core.Path.{_≡_}
 use Rattle.bits.specs.Bits.{numberOf}
-use Rattle.unit.specs.Parts.{anyOf}
+use Rattle.unit.specs.Modes.{anyOf}
 use Rattle.unit.proofs.Modes.{any-start, any-more, any-full}
 use borrow.Author.Needs.{needs}
 use native.Mathlib.Omega.{arith}

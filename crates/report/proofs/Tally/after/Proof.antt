@@ -1,7 +1,7 @@
 -- `report::Tally::after` meets its contract, answer by answer. Assumes nothing.
 use mathlib.Core.Path.{sym, ap}
 use borrow.Author.Needs.{needs}
-use Rattle.report.specs.Parts.{afterNext}
+use Rattle.report.specs.Writers.{afterNext}
 use Rattle.report.proofs.Tally.after.Statement.{statement}
 use Rattle.report.proofs.Tally.after.Tie as tie
 

@@ -3,7 +3,7 @@ use mathlib.Core.Path.{ap}
 use mathlib.Core.Bool.{true}
 use borrow.Author.Needs.{needs}
 use Rattle.search.specs.declared.Cursor.{Cursor}
-use Rattle.report.specs.Parts.{tallyOf}
+use Rattle.report.specs.Writers.{tallyOf}
 use Rattle.report.proofs.Tally.begun.Statement.{statement}
 use Rattle.report.proofs.Tally.begun.Tie as tie
 

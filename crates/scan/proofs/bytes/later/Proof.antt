@@ -1,4 +1,5 @@
--- `scan::bytes::later` meets its contract. The invariant: the blocks passed have index 16. Assumes nothing.
+-- `scan::bytes::later` meets its contract. The invariant: the blocks passed have index 16. Assumes
+-- nothing.
 use Prim.Native.Nat.{_+_, _-_, _*_}
 use mathlib.Core.Path.{_≡_, refl, sym, _∙_}
 use mathlib.Core.Bool.{false}

@@ -1,5 +1,5 @@
--- `scan::bytes::scan` meets its contract: no whole block, a first block that answers, or one that is
--- passed. Assumes nothing.
+-- `scan::bytes::scan` meets its contract: no whole block, a first block that answers, or one that
+-- is passed. Assumes nothing.
 use mathlib.Core.Path.{_≡_, refl, sym, _∙_}
 use mathlib.Core.Bool.{false}
 use lib.ListN.{length-take}

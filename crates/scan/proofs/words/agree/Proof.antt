@@ -1,4 +1,5 @@
--- `scan::words::agree` meets its contract. The invariant: the first i pieces agree. Assumes nothing.
+-- `scan::words::agree` meets its contract. The invariant: the first i pieces agree. Assumes
+-- nothing.
 use Prim.Native.Nat.{_+_, _-_, _*_, _≤_}
 use mathlib.Core.Path.{_≡_, refl, _∙_}
 use mathlib.Core.Bool.{true}
@@ -17,7 +18,8 @@ Inv-loop x y n whole i₀ i = (i ≤ whole) × Agreed true x y i
 abbrev μ-loop : tie.MeasureT-loop
 μ-loop x y n whole i₀ i = whole - i
 
--- the places: what the function was handed, the loop's head, a whole piece's compare, the last piece's
+-- the places: what the function was handed, the loop's head, a whole piece's compare, the last
+-- piece's
 abbrev at-entry : tie.At-loop Inv-loop μ-loop → tie.Start Inv-loop μ-loop
 at-entry c = c .before .before .before .before
 

@@ -1,5 +1,5 @@
--- `scan::words::may_start` meets its contract. The invariant: where nothing is found, the letters do
--- not stand at any place passed. Assumes nothing.
+-- `scan::words::may_start` meets its contract. The invariant: where nothing is found, the letters
+-- do not stand at any place passed. Assumes nothing.
 use Prim.Native.Nat.{ℕ, _-_, _≤_, _<_}
 use mathlib.Core.Path.{_≡_, sym, ap, _∙_}
 use mathlib.Core.Bool.{false}

@@ -1,4 +1,5 @@
--- `scan::words::scan` meets its contract. The invariant: the blocks passed have index 8. Assumes nothing.
+-- `scan::words::scan` meets its contract. The invariant: the blocks passed have index 8. Assumes
+-- nothing.
 use Prim.Native.Nat.{_+_, _-_, _*_}
 use mathlib.Core.Path.{_≡_, refl, sym, _∙_}
 use mathlib.Core.Bool.{true}
@@ -16,7 +17,8 @@ Inv-loop l part operand1 whole i₀ i = Passed true operand1 l part i
 abbrev μ-loop : tie.MeasureT-loop
 μ-loop l part operand1 whole i₀ i = whole - i
 
--- the places: what the function was handed, the loop's head, the block that `pass` leads to, its compare
+-- the places: what the function was handed, the loop's head, the block that `pass` leads to, its
+-- compare
 abbrev at-loop : tie.After-pass Inv-loop μ-loop → tie.At-loop Inv-loop μ-loop
 at-loop c = c .before .before .before
 

@@ -1,5 +1,5 @@
--- `search::Cursor::next_in_bytes` meets its contract: refused by its number, or the end of the walk.
--- Assumes nothing.
+-- `search::Cursor::next_in_bytes` meets its contract: refused by its number, or the end of the
+-- walk. Assumes nothing.
 use mathlib.Core.Path.{_≡_, sym, _∙_}
 use mathlib.Core.Bool.{false}
 use lib.ListN.{length}

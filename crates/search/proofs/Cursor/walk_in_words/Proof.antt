@@ -1,5 +1,5 @@
--- `search::Cursor::walk_in_words` meets its contract. The invariant: the walk from the position reached,
--- with the compares so far, ends as the walk from the start. Assumes nothing.
+-- `search::Cursor::walk_in_words` meets its contract. The invariant: the walk from the position
+-- reached, with the compares so far, ends as the walk from the start. Assumes nothing.
 use Prim.Native.Nat.{_+_, _-_, _≤_}
 use mathlib.Core.Path.{_≡_, refl, sym, ap, _∙_}
 use mathlib.Core.Bool.{true}

@@ -5,7 +5,7 @@ use mathlib.Core.Bool.{true, false}
 use lib.ListN.{length, length-take}
 use native.Mathlib.Omega.{arith}
 use borrow.Author.Needs.{needs}
-use Rattle.spans.specs.Parts.{belongs}
+use Rattle.spans.specs.BlockFront.{belongs}
 use Rattle.spans.proofs.Calls.{range-refused, range-given, bounds-accepted}
 use Rattle.spans.proofs.Fronts.{within}
 use Rattle.spans.proofs.bytes.range_span.Statement.{statement}

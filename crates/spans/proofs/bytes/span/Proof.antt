@@ -5,7 +5,7 @@ use mathlib.Core.Bool.{false}
 use lib.ListN.{length, length-take}
 use native.Mathlib.Omega.{arith}
 use borrow.Author.Needs.{needs}
-use Rattle.spans.specs.Parts.{belongs}
+use Rattle.spans.specs.BlockFront.{belongs}
 use Rattle.spans.proofs.Calls.{set-refused, set-given, set-accepted}
 use Rattle.spans.proofs.Fronts.{within}
 use Rattle.spans.proofs.bytes.span.Statement.{statement}

@@ -1,7 +1,7 @@
 -- `stages::index::answer` meets its contract, field by field. Assumes nothing.
 use Prim.Native.Nat.{ℕ}
 use mathlib.Core.Path.{ap, _∙_}
-use Rattle.unit.specs.Parts.{flagsRead, indexRead}
+use Rattle.unit.specs.Readings.{flagsRead, indexRead}
 use Rattle.unit.proofs.Unit.{count-most}
 use borrow.Author.Needs.{needs}
 use Rattle.stages.proofs.index.answer.Statement.{statement}

@@ -1,4 +1,5 @@
--- `stages::index::index_of` meets its contract, by what `greatest` and `least` say. Assumes nothing.
+-- `stages::index::index_of` meets its contract, by what `greatest` and `least` say. Assumes
+-- nothing.
 use borrow.Author.Needs.{needs}
 use Rattle.stages.proofs.index.index_of.Statement.{statement}
 use Rattle.stages.proofs.index.index_of.Tie as tie

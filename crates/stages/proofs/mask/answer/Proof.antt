@@ -1,7 +1,7 @@
 -- `stages::mask::answer` meets its contract, field by field. Assumes nothing.
 use Prim.Native.Nat.{ℕ}
 use mathlib.Core.Path.{ap, _∙_}
-use Rattle.unit.specs.Parts.{flagsRead}
+use Rattle.unit.specs.Readings.{flagsRead}
 use borrow.Author.Needs.{needs}
 use Rattle.stages.proofs.mask.answer.Statement.{statement}
 use Rattle.stages.proofs.mask.answer.Tie as tie

@@ -1,5 +1,5 @@
--- `stages::negation::negated` meets its contract, polarity by polarity: no bit, all b bits, or those
--- of the valid elements. Assumes nothing.
+-- `stages::negation::negated` meets its contract, polarity by polarity: no bit, all b bits, or
+-- those of the valid elements. Assumes nothing.
 use mathlib.Core.Path.{ap, _∙_}
 use Prim.Native.Nat.{ℕ, min}
 use lib.Dec.{ltb}

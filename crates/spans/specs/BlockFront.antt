@@ -1,4 +1,5 @@
--- What the private functions say. A reader of the public calls needs none of it.
+-- The front of one block: the compare of a leading run, for the contracts of private functions. A
+-- reader of the public calls needs none of it.
 use Prim.Native.Nat.{ℕ, _+_, _-_, min}
 use mathlib.Core.Bool.{Bool, true, false}
 use mathlib.Core.List.{List}

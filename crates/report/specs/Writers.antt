@@ -1,4 +1,5 @@
--- What the parts of the report say, for the contracts of its private functions. A reader of the public call needs none of it.
+-- What the private functions of the report ask and say: how far a list of calls has got, and what
+-- each writer puts on the page. A reader of the public calls needs none of it.
 use Prim.Native.Nat.{ℕ, _+_, _*_, _≤_, _<_}
 use mathlib.Core.Path.{_≡_}
 use mathlib.Core.Bool.{Bool, true, false}
