@@ -1,6 +1,6 @@
--- `modes::bytes::equal_ordered` meets its contract. The invariant: bit j + i of `left` says that the
--- first i elements of x1 stand in x2 from j on, as far as the block goes. Where no bit below 16 is
--- left, what stands is decided; the mark is never looked at. Assumes nothing.
+-- `modes::bytes::equal_ordered` meets its contract. The invariant: bit j + i of `left` says that
+-- the first i elements of x1 stand in x2 from j on, as far as the block goes. Where no bit below 16
+-- is left, what stands is decided; the mark is never looked at. Assumes nothing.
 use Prim.Native.Nat.{ℕ, _≤_, _+_, _*_, _-_, _/_, _%_, _^_}
 use mathlib.Core.Path.{_≡_, _∙_, ap}
 use lib.Bits.{bitAnd, bitOr, and-mask}
