@@ -1,4 +1,5 @@
-//! Links the proved library, `libcapi.a`, from the folder in `HIRTXONDA_LIB` or else from `../target/staticlib`.
+//! Links the proved library, `libcapi.a`, from the folder in `HIRTXONDA_LIB`, else from
+//! `../target/staticlib`.
 
 use std::env;
 use std::path::PathBuf;

@@ -1,13 +1,18 @@
-//! A proved software model of the processor's SSE4.2 string compares, and a search over it that finds every position of a needle in a text.
+//! A proved software model of the processor's SSE4.2 string compares, and a search over it that
+//! finds every position of a needle in a text.
 //!
-//! The calls are thin wrappers over the library's static archive, whose every function is proved against its definition. A machine without the
-//! instructions gets the same index, mask and flags, bit for bit; [`silicon`] has the same calls on the instructions themselves.
+//! The calls are thin wrappers over the library's static archive, whose every function is proved
+//! against its definition. A machine without the instructions gets the same index, mask and flags,
+//! bit for bit. On x86-64 [`silicon`] has the four instructions and the search on the instructions
+//! themselves.
 //!
-//! Bad input is refused by a listed number, a [`Refusal`], and nothing is changed. Texts are slices of bytes or of 16-bit words ([`Element`]).
+//! Texts are slices of bytes or of 16-bit words ([`Element`]). Bad input is refused by a listed
+//! number, a [`Refusal`], and nothing is changed.
 //!
 //! # Example
 //!
-//! Where does `AB` stand in `ABZAB`? Then where in one block of sixteen bytes does `ABC` stand, and where do the letters of a line end?
+//! Where does `AB` stand in `ABZAB`? Where does `ABC` stand in one block of sixteen bytes? Where do
+//! the letters of a line end?
 //!
 //! ```
 //! use hirtxonda::{matches, pcmpestri, range_span, Refusal, Signedness};

@@ -1,4 +1,4 @@
-//! The C interface, include/hirtxonda.h, as it is. What each call asks of its pointers stands there.
+//! The C interface as it is. include/hirtxonda.h says what each call asks of its pointers.
 
 /// `hx_cursor`.
 #[repr(C)]
@@ -9,7 +9,7 @@ pub struct Cursor {
     pub exhausted: u64,
 }
 
-/// What the next-match calls return where there is no more match.
+/// What an accepted search returns where there is no more match.
 pub const ABSENT: u32 = 256;
 
 type Block = *const [u8; 16];

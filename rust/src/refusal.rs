@@ -3,7 +3,8 @@ use std::fmt;
 
 macro_rules! refusals {
     ($($name:ident = $number:literal, $condition:literal;)*) => {
-        /// Why a call was refused. Where several conditions hold, the one with the lowest number is given.
+        /// Why a call was refused. Where several conditions hold, the lowest number is given; a
+        /// report alone tests 7, 6, 3.
         ///
         /// ```
         /// use hirtxonda::{pcmpistri, Refusal};
@@ -69,7 +70,8 @@ impl Refusal {
         self as u32
     }
 
-    /// What a call's number says: accepted, or the refusal.
+    /// What a C call's number says: 0 that it was accepted, any other why it was refused. A search
+    /// looks for absent first.
     pub(crate) fn check(number: u32) -> Result<(), Refusal> {
         match number {
             0 => Ok(()),

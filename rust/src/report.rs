@@ -22,7 +22,7 @@ pub const WIDEST_COLUMN: usize = 20;
 /// ```
 pub const LONGEST_INPUT: usize = 65_536;
 
-/// The bytes of the longest report, and so of a page: it is long enough for every input.
+/// The bytes of the longest report, and so of a page: no input has a longer one.
 ///
 /// ```
 /// use hirtxonda::{report, LONGEST_INPUT, LONGEST_REPORT};
@@ -33,7 +33,8 @@ pub const LONGEST_INPUT: usize = 65_536;
 /// ```
 pub const LONGEST_REPORT: usize = 589_843;
 
-/// Writes the number in decimal, right-justified with spaces, in the first `width` bytes of the buffer; the bytes after them stay.
+/// Writes the number in decimal to the first `width` bytes of the buffer, right-justified with
+/// spaces. The bytes after them stay; refused, all do.
 ///
 /// ```
 /// let mut line = *b"????????????";
@@ -50,8 +51,8 @@ pub fn right_justified(number: u64, width: usize, buffer: &mut [u8]) -> Result<(
     Refusal::check(unsafe { raw::hx_right_justified(number, width, buffer.as_mut_ptr(), buffer.len()) })
 }
 
-/// The lines that the program `hits` prints for the input: the needle up to the first line feed, the text all after it.
-/// For an input that is refused it prints a [`refusal_line`].
+/// The lines that the program `hits` prints for the input: the needle up to the first line feed,
+/// the text all after it. For an input that is refused it prints a [`refusal_line`].
 ///
 /// ```
 /// use hirtxonda::{report, Refusal};
@@ -73,8 +74,8 @@ pub fn report(input: &[u8]) -> Result<Vec<u8>, Refusal> {
     Ok(page)
 }
 
-/// Writes the [`report`] at the front of the page, and gives how many bytes it has; the bytes after them stay. Refused,
-/// the whole page does.
+/// Writes the [`report`] to the front of the page, and gives how many bytes it has. The bytes after
+/// them stay; refused, the whole page does.
 ///
 /// ```
 /// let mut page = [b'?'; hirtxonda::LONGEST_REPORT];
@@ -87,7 +88,8 @@ pub fn report(input: &[u8]) -> Result<Vec<u8>, Refusal> {
 /// [`Refusal::Input`], [`Refusal::Feed`], [`Refusal::Needle`], in this order.
 pub fn report_into(input: &[u8], page: &mut [u8; LONGEST_REPORT]) -> Result<usize, Refusal> {
     let mut written = 0;
-    // SAFETY: a slice with its length, and a page of the length that the call asks for; what is written is lent alone.
+    // SAFETY: a slice with its length, a page as long as the call asks for, and a local; both that
+    // are written are lent alone.
     Refusal::check(unsafe { raw::hx_report(input.as_ptr(), input.len(), page.as_mut_ptr(), &mut written) })?;
     Ok(written)
 }

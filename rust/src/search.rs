@@ -14,7 +14,8 @@ use crate::{raw, Element, Refusal, LONGEST_TEXT};
 /// ```
 pub const LONGEST_NEEDLE: usize = 1024;
 
-/// The most compares that a cursor may have behind it. No search that began with a fresh cursor comes near.
+/// The most compares that a cursor may have behind it. No search that began with a fresh cursor
+/// comes near.
 ///
 /// ```
 /// use hirtxonda::{Cursor, Refusal, MOST_COMPARES};
@@ -24,7 +25,8 @@ pub const LONGEST_NEEDLE: usize = 1024;
 /// ```
 pub const MOST_COMPARES: u64 = 1_099_511_627_776;
 
-/// Where a list of calls has got to. Any numbers may stand here; each cursor is answered or refused.
+/// Where a list of calls has got to. Any numbers may stand here; each cursor is answered or
+/// refused.
 ///
 /// ```
 /// use hirtxonda::{Cursor, Next};
@@ -95,7 +97,8 @@ impl Cursor {
     ///
     /// # Errors
     ///
-    /// [`Refusal::Text`], [`Refusal::Needle`], [`Refusal::Exhausted`], [`Refusal::Position`], [`Refusal::Compares`].
+    /// [`Refusal::Text`], [`Refusal::Needle`], [`Refusal::Exhausted`], [`Refusal::Position`],
+    /// [`Refusal::Compares`].
     pub fn next<E: Element>(self, text: &[E], needle: &[E]) -> Result<Next, Refusal> {
         let mut after =
             raw::Cursor { position: self.position, compares: self.compares, exhausted: u64::from(self.exhausted) };
@@ -153,7 +156,7 @@ impl<'a, E: Element> Matches<'a, E> {
         Ok(Matches { text, needle, cursor: Cursor::fresh(), next })
     }
 
-    /// The compares so far.
+    /// The compares of all calls so far.
     ///
     /// ```
     /// let mut matches = hirtxonda::matches(b"ABZAB", b"AB")?;

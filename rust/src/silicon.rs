@@ -1,6 +1,7 @@
-//! The same calls and the same search on the processor's own instructions, where it has them.
+//! The unit's four calls and the search on the processor's own instructions, where it has them.
 //!
-//! Nothing here comes from the proved library. The answers must be the same; the tests hold the two against each other.
+//! Nothing here comes from the proved library. The answers must be the same; the tests hold the two
+//! against each other.
 //!
 //! ```
 //! use hirtxonda::{matches, silicon};
@@ -50,13 +51,15 @@ struct Operands {
 /// One instruction at one control, which is part of the instruction. Gives ECX or XMM0, and EFLAGS.
 type Instruction<Output> = unsafe fn(&Operands) -> (Output, u64);
 
-/// An instruction as a function over the control. Before it, 10h - 01h sets AF and PF, so that it is seen to reset them.
+/// An instruction as a function over the control. Before it, 10h - 01h sets AF and PF, so that it
+/// is seen to reset them.
 macro_rules! instruction {
     ($name:ident, $mnemonic:literal, $place:tt $output:ty) => {
         #[target_feature(enable = "sse4.2")]
         fn $name<const CONTROL: u8>(operands: &Operands) -> ($output, u64) {
             let (output, flags);
-            // SAFETY: the instruction reads and writes these registers and the flags alone; the stack is used as asm may.
+            // SAFETY: the instruction reads and writes these registers and the flags alone; pushfq
+            // uses the stack as asm may.
             unsafe {
                 asm!(
                     "mov {flags:l}, 16",
@@ -137,7 +140,9 @@ impl MaskAnswer {
 
 macro_rules! calls {
     ($($name:ident($($length1:ident, $length2:ident)?) $table:ident $answer:ident $arguments:literal;)*) => { $(
-        #[doc = concat!("[`", stringify!($name), "`](crate::", stringify!($name), ") by the instruction.")]
+        #[doc = concat!(
+            "[`", stringify!($name), "`](crate::", stringify!($name), ") by the instruction."
+        )]
         ///
         /// ```
         /// use hirtxonda::silicon;
@@ -168,7 +173,7 @@ calls! {
     pcmpistrm() ISTRM MaskAnswer "(a, b, 0x0c)";
 }
 
-// ---- the walk of document 01
+// ---- the walk of document 01 (docs/SCOPE.md)
 
 /// [`Cursor::next`] by the instructions: the same walk, the same compares, the same refusals.
 ///
@@ -242,7 +247,8 @@ fn walk<E: Element>(mut cursor: Cursor, text: &[E], needle: &[E]) -> Next {
     Next::Absent { cursor }
 }
 
-/// The needle's pieces after the first, each compared with as many elements of the text, up to the first that differs.
+/// Compares the needle's pieces after the first, each with as many elements of the text, up to the
+/// first that differs.
 #[target_feature(enable = "sse4.2")]
 fn later_pieces_stand<E: Element>(text: &[E], needle: &[E], compares: &mut u64) -> bool {
     let pieces = needle.chunks(E::BLOCK).zip(text.chunks(E::BLOCK)).skip(1);
@@ -262,7 +268,8 @@ fn operand<E: Element>(part: &[E]) -> (__m128i, i32) {
     let size = size_of_val(part);
     let mut bytes = [0u8; 16];
     assert!(size <= 16);
-    // SAFETY: the part has `size` bytes, at most sixteen. The processor keeps a word low byte first, as an operand does.
+    // SAFETY: the part has `size` bytes, at most sixteen. A word's low byte comes first, as in an
+    // operand.
     let operand = unsafe {
         if size == 16 {
             _mm_loadu_si128(part.as_ptr().cast())
@@ -274,7 +281,8 @@ fn operand<E: Element>(part: &[E]) -> (__m128i, i32) {
     (operand, part.len() as i32)
 }
 
-/// Equal ordered, positive, least index: where the first operand stands in the second.
+/// Equal ordered, positive, least index: where the first operand stands in the second, as far as
+/// the block goes.
 #[target_feature(enable = "sse4.2")]
 fn ordered<E: Element>((a, length_a): (__m128i, i32), (b, length_b): (__m128i, i32)) -> usize {
     let index = if E::BLOCK == 16 {

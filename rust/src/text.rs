@@ -28,7 +28,7 @@ pub const LONGEST_TEXT: usize = 1_048_576;
 /// assert_eq!((u8::BLOCK, u16::BLOCK), (16, 8));
 /// ```
 pub trait Element: raw::Calls + Copy + Eq + 'static {
-    /// The elements of a block, 16 bytes or 8 words: the most that a set or a list of bounds may have.
+    /// The elements of a block, 16 bytes or 8 words; a set or a list of bounds has no more.
     const BLOCK: usize = 16 / std::mem::size_of::<Self>();
 }
 
@@ -69,14 +69,16 @@ pub fn span<'a, E: Element>(text: &'a [E], set: &[E]) -> Result<&'a [E], Refusal
     Ok(&text[..span])
 }
 
-/// The longest front of the text whose elements each lie in one of the ranges. The bounds are in pairs, low and high.
+/// The longest front of the text whose elements each lie in one of the ranges. The bounds are in
+/// pairs, low and high; a low bound above its high one makes an empty range.
 ///
 /// ```
 /// use hirtxonda::{range_span, Signedness};
 ///
 /// assert_eq!(range_span(b"Otis, Elisha", b"AZaz", Signedness::Unsigned)?, b"Otis");
-/// // -1 to 1.
-/// assert_eq!(range_span(&[0u16, 0xffff, 1, 2], &[0xffff, 1], Signedness::Signed)?, [0, 0xffff, 1]);
+/// // From -1 to 1.
+/// let run = range_span(&[0u16, 0xffff, 1, 2], &[0xffff, 1], Signedness::Signed)?;
+/// assert_eq!(run, [0, 0xffff, 1]);
 /// # Ok::<(), hirtxonda::Refusal>(())
 /// ```
 ///
@@ -87,7 +89,8 @@ pub fn range_span<'a, E: Element>(text: &'a [E], bounds: &[E], signedness: Signe
     Ok(&text[..signed(E::RANGE_SPAN, text, bounds, signedness)?])
 }
 
-/// The order of two texts. At the first difference the smaller element decides; if one text is the front of the other, the shorter is smaller.
+/// The order of two texts. At the first difference the smaller element decides; if one text is the
+/// front of the other, the shorter is smaller.
 ///
 /// ```
 /// use hirtxonda::{compare, Signedness};

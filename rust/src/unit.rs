@@ -5,7 +5,8 @@ use crate::{raw, Refusal};
 /// The flags after a compare. `AF` and `PF` are always 0.
 ///
 /// ```
-/// let flags = hirtxonda::pcmpistri(b"SMITH\0\0\0\0\0\0\0\0\0\0\0", b"SMYTH\0\0\0\0\0\0\0\0\0\0\0", 0x18)?.flags;
+/// let (a, b) = (b"SMITH\0\0\0\0\0\0\0\0\0\0\0", b"SMYTH\0\0\0\0\0\0\0\0\0\0\0");
+/// let flags = hirtxonda::pcmpistri(a, b, 0x18)?.flags;
 /// assert!(flags.carry && flags.zero && flags.sign && !flags.overflow);
 /// # Ok::<(), hirtxonda::Refusal>(())
 /// ```
@@ -39,12 +40,13 @@ impl Flags {
 /// use hirtxonda::{pcmpestri, Flags, IndexAnswer};
 ///
 /// // Two empty operands, equal any: no bit is set, and both are shorter than a block.
-/// let none = IndexAnswer { index: 16, flags: Flags { zero: true, sign: true, ..Flags::default() } };
-/// assert_eq!(pcmpestri(&[0; 16], 0, &[0; 16], 0, 0x00), Ok(none));
+/// let flags = Flags { zero: true, sign: true, ..Flags::default() };
+/// assert_eq!(pcmpestri(&[0; 16], 0, &[0; 16], 0, 0x00), Ok(IndexAnswer { index: 16, flags }));
 /// ```
 #[derive(Clone, Copy, Debug, PartialEq, Eq, Hash)]
 pub struct IndexAnswer {
-    /// The least set bit of the result, with control bit 6 the greatest; 16 in bytes or 8 in words where none is set.
+    /// The least set bit of the result, with control bit 6 the greatest; where none is set, 16 in
+    /// bytes and 8 in words.
     pub index: u32,
     /// The flags.
     pub flags: Flags,
@@ -53,14 +55,17 @@ pub struct IndexAnswer {
 /// The answer of the mask calls.
 ///
 /// ```
-/// // 59h: words, equal each, negative, a mask of elements: where do two texts of three words differ?
-/// let answer = hirtxonda::pcmpestrm(b"A\0B\0C\0\0\0\0\0\0\0\0\0\0\0", 3, b"A\0X\0C\0\0\0\0\0\0\0\0\0\0\0", 3, 0x59)?;
+/// // 59h: words, equal each, negative, a mask of elements: where do two texts of three words
+/// // differ?
+/// let (a, b) = (b"A\0B\0C\0\0\0\0\0\0\0\0\0\0\0", b"A\0X\0C\0\0\0\0\0\0\0\0\0\0\0");
+/// let answer = hirtxonda::pcmpestrm(a, 3, b, 3, 0x59)?;
 /// assert_eq!(answer.mask, [0, 0, 255, 255, 0, 0, 0, 0, 0, 0, 0, 0, 0, 0, 0, 0]);
 /// # Ok::<(), hirtxonda::Refusal>(())
 /// ```
 #[derive(Clone, Copy, Debug, PartialEq, Eq, Hash)]
 pub struct MaskAnswer {
-    /// The bits of the result in the first two bytes, low byte first; with control bit 6 each bit fills its element.
+    /// The bits of the result in the first two bytes, low byte first, the others 0; with control
+    /// bit 6 each bit fills its element.
     pub mask: [u8; 16],
     /// The flags.
     pub flags: Flags,
@@ -68,8 +73,8 @@ pub struct MaskAnswer {
 
 /// PCMPESTRI: compares operands of explicit length, and gives an index.
 ///
-/// The control byte is that of the instruction: bits 1:0 the elements, 3:2 the aggregation, 5:4 the polarity, 6 the output. A length counts by its
-/// absolute value, cut to 16 bytes or 8 words.
+/// The control byte is that of the instruction: bits 1:0 the elements, 3:2 the aggregation, 5:4 the
+/// polarity, 6 the output. A length counts by its absolute value, cut to 16 bytes or 8 words.
 ///
 /// ```
 /// use hirtxonda::pcmpestri;
@@ -82,7 +87,7 @@ pub struct MaskAnswer {
 ///
 /// # Errors
 ///
-/// [`Refusal::Control`]; the same for the other three.
+/// [`Refusal::Control`] for a control above 127; the same for the other three.
 pub fn pcmpestri(
     operand1: &[u8; 16],
     length1: i32,
@@ -90,7 +95,7 @@ pub fn pcmpestri(
     length2: i32,
     control: u8,
 ) -> Result<IndexAnswer, Refusal> {
-    // SAFETY: four references, and the two that are written are to locals.
+    // SAFETY: four references; the two that are written are to locals.
     index_answer(|index, flags| unsafe {
         raw::hx_pcmpestri(operand1, length1, operand2, length2, control, index, flags)
     })
@@ -132,7 +137,8 @@ pub fn pcmpestrm(
 ///
 /// ```
 /// // 40h: bytes, equal any, positive, a mask of elements: which letters are vowels?
-/// let answer = hirtxonda::pcmpistrm(b"AEIOU\0\0\0\0\0\0\0\0\0\0\0", b"OTIS\0\0\0\0\0\0\0\0\0\0\0\0", 0x40)?;
+/// let (vowels, name) = (b"AEIOU\0\0\0\0\0\0\0\0\0\0\0", b"OTIS\0\0\0\0\0\0\0\0\0\0\0\0");
+/// let answer = hirtxonda::pcmpistrm(vowels, name, 0x40)?;
 /// assert_eq!(answer.mask, [255, 0, 255, 0, 0, 0, 0, 0, 0, 0, 0, 0, 0, 0, 0, 0]);
 /// # Ok::<(), hirtxonda::Refusal>(())
 /// ```
@@ -155,7 +161,10 @@ fn mask_answer(call: impl FnOnce(&mut [u8; 16], &mut u32) -> u32) -> Result<Mask
 
 macro_rules! at_one_control {
     ($($name:ident $raw:ident $control:literal $what:literal $example:literal;)*) => { $(
-        #[doc = concat!("The index of [`pcmpestri`] at control ", $control, ": ", $what, ". The lengths are not negative, and nothing is refused.")]
+        #[doc = concat!(
+            "The index of [`pcmpestri`] at control ", $control, ": ", $what,
+            ". The lengths are not negative, and nothing is refused."
+        )]
         ///
         /// ```
         #[doc = $example]

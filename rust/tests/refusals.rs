@@ -1,5 +1,5 @@
-//! The raw C calls: each number at its edge, the lowest where several apply, and nothing written by
-//! a refused call.
+//! The raw C calls: each number at its edge (those of a report: `report.rs`), the lowest where
+//! several apply, and nothing written by a refused call.
 
 mod common;
 #[allow(dead_code)]
@@ -135,8 +135,8 @@ fn next_in_words() {
     next::<u16>();
 }
 
-/// Cursors that no list of calls gives, on short texts. A refused one is as it was, exhausted by
-/// any number but 0.
+/// Cursors that no list of calls gives, on short texts. Any number but 0 is exhausted; a refused
+/// cursor stays as it was.
 fn made_up_cursors<E: Calls + Clone + Default>() {
     let needle = vec![E::default(); LONGEST_NEEDLE + 1];
     for (n, m) in [0, 20, 40].into_iter().flat_map(|n| [0, 1, LONGEST_NEEDLE, LONGEST_NEEDLE + 1].map(|m| (n, m))) {
@@ -241,14 +241,14 @@ fn signed_numbers() {
     }
 }
 
-/// A length that is refused is refused before anything is read: here it is far longer than what
+/// A length above its limit is refused before any element is read: here it is far longer than what
 /// stands behind the pointer.
 #[test]
 fn refused_lengths_are_not_read() {
     let (byte, word) = ([1u8], [1u16]);
     let cursor = raw::Cursor { position: 0, compares: 0, exhausted: 0 };
     for huge in [LONGEST_TEXT + 1, 1 << 32, 1 << 62, usize::MAX / 2, usize::MAX] {
-        // SAFETY: the header allows it, since nothing is read.
+        // SAFETY: the header allows it, since no element is read.
         unsafe {
             let next = |p: *mut (raw::Cursor, u64)| {
                 hx_next_in_bytes(&mut (*p).0, byte.as_ptr(), huge, byte.as_ptr(), 1, &mut (*p).1)

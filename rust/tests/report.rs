@@ -20,7 +20,8 @@ fn expected(input: &[u8]) -> Result<Vec<u8>, Refusal> {
     Ok(format!("{lines}{:8}{:10}\n", found.len(), list_compares(text, needle)).into_bytes())
 }
 
-/// The report, and that the rest of the page stays; refused, all of it. The page is what earlier reports left.
+/// The report, and that the 5,000 bytes after it stay; refused, the page's first 5,000. The page is
+/// what earlier reports left.
 fn check_report(input: &[u8], page: &mut [u8; LONGEST_REPORT]) {
     let expected = expected(input);
     let lines = expected.as_deref().unwrap_or(&[]);
@@ -76,7 +77,7 @@ fn reports_at_the_edges() {
     assert_eq!(report(&vec![b'\n'; LONGEST_INPUT]).map(|lines| lines.len()), Ok(LONGEST_REPORT));
 }
 
-/// A refused report leaves every byte of the page.
+/// A refused report leaves every byte of the page, and its number has its line.
 #[test]
 fn refused_reports_leave_the_page() {
     let long_needle = [vec![b'A'; LONGEST_NEEDLE + 1], b"\n".to_vec()].concat();

@@ -85,7 +85,7 @@ fn texts_that_belong_as_a_whole<E: Letter>() {
     }
 }
 
-/// No member up to b of them, and one more. The text is of the last member.
+/// No member up to b of them, and one or two more. The text is of the last member.
 fn sets_of_each_size<E: Letter>() {
     let set: Vec<E> = row(0x6161, E::BLOCK + 2);
     for m in 0..=E::BLOCK {
@@ -307,7 +307,7 @@ fn several_refusals_at_once<E: Letter>() {
 /// How often each of these events must occur at least, so that the cases are those that are meant.
 const OFTEN: usize = 5;
 
-/// Texts of members, of one, two or all of them, with one element put at a drawn place.
+/// Texts of members, of one, two or all of them; half have one element put at a drawn place.
 fn drawn_runs<E: Letter>() {
     let mut random = Random::fixed("drawn_runs");
     let mut seen = [0; 8];
@@ -350,7 +350,7 @@ fn note_run<E: Letter>(seen: &mut [usize], text: &[E], list: &[E]) {
     events.iter().zip(seen).for_each(|(&event, count)| *count += usize::from(event));
 }
 
-/// A text, and the same or a longer or shorter one with one element put at a drawn place.
+/// A text, and the same or a longer or shorter one, mostly with one element put at a drawn place.
 fn drawn_orders<E: Letter>() {
     let mut random = Random::fixed("drawn_orders");
     let mut seen = [0; 9];

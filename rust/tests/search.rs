@@ -28,8 +28,8 @@ fn flip<E: Letter>(random: &mut Random, part: &mut [E]) {
     part[element] = E::cut(part[element].unsigned() as u64 ^ bits);
 }
 
-/// Copies of the needle in the text, some with a flaw in one element: whole in its first piece, so
-/// that later pieces are compared.
+/// Copies of the needle in the text, some with a flaw in one element; half of these flaws stand
+/// after the first piece, so that later pieces are compared.
 fn plant<E: Letter>(random: &mut Random, text: &mut [E], needle: &[E]) {
     if needle.is_empty() || needle.len() > text.len() {
         return;

@@ -191,7 +191,7 @@ fn drawn_lists<E: Letter>() {
     }
 }
 
-/// Cursors on a text of n elements: positions about its ends, one that is refused and drawn ones;
+/// Cursors on a text of n elements: positions about its ends, two that are refused and drawn ones;
 /// compares about the most that are accepted and drawn ones; exhausted or not.
 fn some_cursors(random: &mut Random, n: u64) -> Vec<Cursor> {
     let most = MOST_COMPARES;
@@ -256,7 +256,8 @@ fn compares_that_grow_past_the_most<E: Letter>() {
     assert_eq!(call(2, MOST_COMPARES + 1), Err(Refusal::Compares));
 }
 
-/// The last match of the longest text, asked for from where it stands and from the text's end.
+/// The last match of the longest text, asked for from before it, from where it stands and from
+/// after it.
 fn the_longest_text_from_its_end<E: Letter>() {
     let mut random = Random::fixed("the_longest_text_from_its_end");
     let real = silicon_available("the_longest_text_from_its_end");

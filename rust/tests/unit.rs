@@ -1,4 +1,5 @@
-//! The proved unit against the processor's own instructions: all 128 controls, both rules of lengths, both outputs, all six flags.
+//! The proved unit against the processor's own instructions: all 128 controls, explicit and
+//! implicit lengths, index and mask, all six flags.
 #![cfg(target_arch = "x86_64")]
 
 mod common;
@@ -7,10 +8,10 @@ use common::{say, silicon_available, text, Random, ALPHABETS};
 use hirtxonda::{pcmpestri, pcmpestri_0c, pcmpestri_0d, pcmpestri_18, pcmpestri_19, pcmpestrm, pcmpistri, pcmpistrm};
 use hirtxonda::{silicon, Flags, Refusal};
 
-/// Blocks of each of the four tests.
+/// Blocks that a test draws.
 const BLOCKS: usize = 1 << 20;
 
-/// Controls that each block is tried at. They go round, so every control gets the same number of blocks.
+/// Controls at which a block is tried. They go round, so that every control gets as many blocks.
 const CONTROLS: usize = 32;
 
 struct Block {
@@ -40,7 +41,7 @@ fn length(random: &mut Random) -> i32 {
     }
 }
 
-/// Elements that are zero, bytes or words.
+/// Makes one to three elements zero, bytes or words.
 fn put_zeros(random: &mut Random, operand: &mut [u8; 16]) {
     for _ in 0..random.below(3) + 1 {
         let at = random.below(16);
@@ -51,7 +52,8 @@ fn put_zeros(random: &mut Random, operand: &mut [u8; 16]) {
     }
 }
 
-/// Operand 1 is drawn alone, or is operand 2 with some bits changed or none, or a part of it with another end.
+/// Operand 1 is drawn alone, or is operand 2 with some bits changed or none, or a part of it with
+/// another end.
 fn block(random: &mut Random) -> Block {
     let alphabet = random.below(ALPHABETS);
     let mut operand2 = operand(random, alphabet);
@@ -131,7 +133,7 @@ fn implicit_mask() {
     );
 }
 
-/// The four calls at one control, lengths that are not negative and any `usize`.
+/// The four calls at one control, with lengths up to the largest `usize`.
 #[test]
 fn one_control() {
     type Call = fn(&[u8; 16], usize, &[u8; 16], usize) -> u32;
@@ -168,7 +170,7 @@ fn controls_above_127_are_refused() {
     }
 }
 
-/// Document 01's specimens U1 to U9: the bits of the result, and the least index.
+/// Document 01's specimens U1 to U9: the bits of the result, the index and the flags.
 #[test]
 fn specimens() {
     fn bits(a: &[u8], length1: i32, b: &[u8], length2: i32, control: u8) -> (u16, u32, Flags) {
