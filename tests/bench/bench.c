@@ -1,14 +1,15 @@
-// Times the proved search and the proved unit beside the processor's own instructions, the C library's memmem and a plain loop. tests/bench/run builds it, runs it and
-// makes the table.
+// Times the proved search and the proved unit beside the processor's own instructions, the C
+// library's memmem and a plain loop. tests/bench/run builds it, runs it and makes the tables.
 //
-//   bench search ROUNDS            a line for each case: all contenders, in turn, in one process
-//   bench real ROUNDS              a line for each case: the walk with the real instructions alone, to be run under an emulator
-//   bench growth ROUNDS            the proved search over texts of 64 KiB to 1 MiB
-//   bench unit ROUNDS              a call of the unit, averaged over the controls: the model and the instructions
-//   bench real-unit ROUNDS         the instructions alone; controls that an emulator does not have are left out
-//   bench entries ROUNDS           one compare at 0Ch and at 18h, block after block
+//   bench search ROUNDS      a line for each case: all contenders, in turn, in one process
+//   bench real ROUNDS        a line for each case: the real walk alone, for a run under an emulator
+//   bench growth ROUNDS      the proved search over texts of 64 KiB to 1 MiB elements
+//   bench unit ROUNDS        a line for each call and control: the model and the instruction
+//   bench real-unit ROUNDS   the instructions alone; controls that an emulator lacks are left out
+//   bench entries ROUNDS     one compare at 0Ch and at 18h, block after block
 //
-// Times are the least of the rounds, in nanoseconds. Every contender's hits and compares are checked against the others'.
+// Times are the least of the rounds, in nanoseconds. In `search` each contender's matches are
+// checked against the proved search's, and the real walk's compares too.
 #define _GNU_SOURCE
 #include <immintrin.h>
 #include <setjmp.h>
@@ -60,7 +61,7 @@ static void make_register(uint8_t *text, size_t n) {
     }
 }
 
-// ---- the same walk with the processor's own instructions (document 01, "The walk"), what an office machine runs
+// ---- the real walk: that of document 01, "The walk", with the processor's own instructions
 
 __attribute__((noinline)) static uint32_t real_next_in_bytes(hx_cursor *c, const uint8_t *text, size_t n, const uint8_t *needle, size_t m, uint64_t *position) {
     if (n > HX_LONGEST_TEXT) return HX_TEXT_REFUSED;
@@ -281,7 +282,8 @@ static const uint16_t *widened(const uint8_t *x, size_t n) {
     return y;
 }
 
-// A text of n - 1 A and a B, a needle of m - 1 A and a B: the most compares for these sizes (document 02 [7]).
+// A text of n - 1 A and a B, a needle of m - 1 A and a B: the most compares for these sizes
+// (document 02 [7]).
 static void add_worst(const char *name, int width, size_t n, size_t m) {
     uint8_t *text = fresh(n), *needle = fresh(m);
     memset(text, 'A', n);
@@ -303,7 +305,7 @@ static void make_cases(size_t n) {
             if (width == BYTES) add(names[i], BYTES, text, n, needle, m);
             else add(names[i], WORDS, wide, n, widened(needle, m), m);
         }
-        // longer needles stand in the register once, at its middle, from the start of an entry
+        // longer needles are taken from the register's middle, from the start of an entry
         size_t at = n / 2;
         while (text[at - 1] != '\n') at++;
         static const size_t lengths[] = {16, 17, 61, 1024};
@@ -409,7 +411,8 @@ static void make_blocks(void) {
     }
 }
 
-// each call of the real unit with its answer and all flags, at a constant control
+// each call of the real unit with its answer and the four flags that intrinsics give, at a constant
+// control
 #define FLAGS(K, A, L1, B, L2) \
     (uint32_t)(_mm_cmpestrc(A, L1, B, L2, K) | _mm_cmpestrz(A, L1, B, L2, K) << 6 | _mm_cmpestrs(A, L1, B, L2, K) << 7 | _mm_cmpestro(A, L1, B, L2, K) << 11)
 #define IFLAGS(K, A, B) (uint32_t)(_mm_cmpistrc(A, B, K) | _mm_cmpistrz(A, B, K) << 6 | _mm_cmpistrs(A, B, K) << 7 | _mm_cmpistro(A, B, K) << 11)
@@ -463,7 +466,8 @@ static double time_blocks(int control, int call, int real, uint64_t *digest) {
     return t / BLOCKS;
 }
 
-// the least time of a call at a control, the model's and the instruction's; false where this processor, or its emulator, has no such control
+// the least time of a call at a control, the model's and the instruction's; false where this
+// processor, or its emulator, has no such control
 static int time_control(int rounds, int call, int control, int both, double best[2]) {
     if (sigsetjmp(no_such_control, 1)) return 0;
     for (int r = 0; r < rounds; r++) {

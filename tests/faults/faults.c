@@ -1,16 +1,17 @@
 /*
  * Random and hostile calls through every function of include/hirtxonda.h.
  *
- * Each buffer, operand, cursor and out-number of a call lies in an arena of its own between two guard pages: right
- * before the one or right behind the other, so that a read or write of one byte outside traps. What is expected of a
- * call (refusal, what is written, what stays) is written here from the header's rules alone.
+ * Each buffer, operand, cursor and out-number of a call lies in an arena of its own between two
+ * guard pages, mostly right before the one or right behind the other, so that a read or write of
+ * one byte outside traps. What is expected of a call (refusal, what is written, what stays) is
+ * written here from the header's rules alone.
  *
- *   faults [--calls N] [--seed N]     the run: a line of figures, exit status 0 where nothing was wrong
- *   faults --seed N --case I          one case again, as a failed run names it
- *   faults --guards                   shows that the guards trap: a child process for each arena and end
+ *   faults [--calls N] [--seed N]   the run: a line of figures, status 0 where nothing was wrong
+ *   faults --seed N --case I        one case again, as a failed run names it
+ *   faults --guards                 shows that the guards trap, at each end of each arena
  *
- * Built with -DMEMCHECK, for a run under valgrind, what lies in an arena outside the buffer is also marked as no
- * memory; under the address sanitizer it is poisoned.
+ * Built with -DMEMCHECK, for a run under valgrind, what lies in an arena outside the buffer is also
+ * marked as no memory; under the address sanitizer it is poisoned.
  */
 #define _GNU_SOURCE
 #include <inttypes.h>
@@ -32,7 +33,8 @@
 #include <valgrind/memcheck.h>
 #define SHUT(at, bytes) ((void)VALGRIND_MAKE_MEM_NOACCESS(at, bytes))
 #define OPEN(at, bytes) ((void)VALGRIND_MAKE_MEM_DEFINED(at, bytes))
-#define BLANK(at, bytes) ((void)VALGRIND_MAKE_MEM_UNDEFINED(at, bytes)) /* to be written, not read */
+/* to be written, not read */
+#define BLANK(at, bytes) ((void)VALGRIND_MAKE_MEM_UNDEFINED(at, bytes))
 #define FORM "valgrind"
 #elif defined(__SANITIZE_ADDRESS__)
 #include <sanitizer/asan_interface.h>
@@ -64,7 +66,7 @@ static uint64_t draw(void)
 static uint64_t below(uint64_t n) { return draw() % n; }
 static bool one_in(uint64_t n) { return below(n) == 0; }
 
-/* A number of any size. No expression here draws twice, so that each compiler gives the same cases. */
+/* A number of any size. No expression draws twice, so that each compiler gives the same cases. */
 static uint64_t any_number(void)
 {
     uint64_t bits = draw();
@@ -186,8 +188,8 @@ static size_t used_count;
 
 static uint8_t *mirror_of(const place *p) { return p->in->mirror + (p->at - p->in->low); }
 
-/* Places so many bytes: before the back guard, behind the front guard, or one time in eight anywhere between, at any
- * address that the alignment allows. */
+/* Places so many bytes: before the back guard, behind the front guard, or one time in eight
+ * anywhere between, at any address that the alignment allows. */
 static void put(place *p, int slot, size_t bytes, size_t align, bool is_out)
 {
     arena *a = bytes <= small_arena[slot].size / 2 ? &small_arena[slot] : &large_arena[slot];
@@ -197,10 +199,11 @@ static void put(place *p, int slot, size_t bytes, size_t align, bool is_out)
     used[used_count++] = p;
 }
 
-/* The bytes of a place have been chosen: they must stand after the call, unless it may write there. */
+/* The bytes of a place have been chosen: they must stand after the call, but for what `written`
+ * says. */
 static void chosen(const place *p) { memcpy(mirror_of(p), p->at, p->bytes); }
 
-/* The call may have written the first n bytes of a place. */
+/* The call was to write the first n bytes of a place, and they have been looked at. */
 static void written(const place *p, size_t n) { memcpy(mirror_of(p), p->at, n); }
 
 static void begin(const char *name)
@@ -230,7 +233,8 @@ static void after_call(void)
         OPEN(used[i]->in->low, used[i]->in->size);
 }
 
-/* One number for all that the calls returned and left in their outputs. It is the same on every machine. */
+/* One number for all that the calls returned and left in their outputs, the same on every
+ * machine. */
 static uint64_t digest;
 
 static void fold(uint64_t number)
@@ -249,7 +253,8 @@ static void fold_place(const place *p)
     }
 }
 
-/* Everything in and around the places is what it must be; more of the arenas is looked at from time to time. */
+/* Everything in the places and 64 bytes around them is what it must be; the whole arenas are looked
+ * at from time to time. */
 static void settle(void)
 {
     for (size_t i = 0; i < used_count; i++) {
@@ -289,7 +294,7 @@ static const uint8_t alphabets[6][8] = {
     {'A', 'B', 'A', 'B', 'A', 'B', 'A', 'B'},   {0x00, 0x01, 0x7f, 0x80, 0x81, 0xfe, 0xff, 0x7e},
     {'A', 'A', 'A', 'A', 'A', 'A', 'A', 'A'},   {'A', 'A', 'A', 'A', 'A', 'A', 'A', 'B'},
     {0x00, 'A', 'B', 'C', 0x00, 'A', 'B', 'C'}, {0xff, 0x00, 0xff, 0xff, 0xff, 0x00, 0x00, 0xff}};
-static uint64_t alphabet; /* of this case; the number behind the last is any byte */
+static uint64_t alphabet; /* of this case; the numbers behind the last are any byte */
 
 static void scribble(uint8_t *at, size_t bytes)
 {
@@ -354,8 +359,8 @@ static size_t small_length(void)
     }
 }
 
-/* A text with a length that is refused: a small buffer, or none, with the guard page right there, and a length that is
- * not its own. */
+/* A text with a length that is refused: a buffer of at most 64 elements, and a length that is not
+ * its own. */
 static void false_text(text *t, int slot, unsigned width, size_t limit)
 {
     t->width = width;
@@ -391,7 +396,8 @@ static void change_one_bit(const place *p, size_t bytes)
     *at ^= (uint8_t)(1u << below(8));
 }
 
-/* Now and then the second text begins as the first does, up to a changed bit; or it is the first, at its address. */
+/* Now and then the second text begins as the first does, perhaps with a bit changed; or it is the
+ * first, or its front, at its address. */
 static void relate(text *second, const text *first)
 {
     if (!is_true(first) || !is_true(second))
@@ -455,7 +461,7 @@ static int32_t draw_length(const char *label)
 
 static uint8_t draw_control(void) { return (uint8_t)arg("control", one_in(4) ? 128 + below(128) : below(128)); }
 
-/* An operand, of sixteen bytes; operand 2 now and then is operand 1, or the same bytes at another place. */
+/* An operand. Operand 2 now and then is operand 1, or the same bytes at another place. */
 static const uint8_t *draw_operand(place *p, int slot, const place *other)
 {
     if (other != NULL && one_in(16)) {
@@ -668,7 +674,8 @@ static uint32_t next_call(const text *t, const text *needle, place *c, place *at
         settle();
         return result;
     }
-    /* a step of the walk goes on by at least one position and makes at most one compare for each piece of the needle */
+    /* a step of the walk goes on by at least one position, and makes at most one compare for each
+     * piece of the needle */
     most = old.position + needle->length > t->length
                ? 0
                : (t->length + 1 - old.position) * ((needle->length * t->width + 15) / 16);
@@ -691,7 +698,8 @@ static void draw_search(text *t, text *needle, place *c, place *at, unsigned wid
     begin(width == 1 ? "hx_next_in_bytes" : "hx_next_in_words");
     draw_text(t, A, width);
     draw_needle(needle, t, width);
-    if (one_in(32) && is_true(t)) { /* a needle that is a part of the text itself, at its own address */
+    /* a needle that is a part of the text itself, at its own address */
+    if (one_in(32) && is_true(t)) {
         used_count--;
         *needle = *t;
         needle->length = below(t->length + 1);
@@ -739,7 +747,8 @@ static void try_fresh(void)
     check_fresh(&c);
 }
 
-/* A list of calls from a fresh cursor: every position, absent, then refused. It ends after forty matches. */
+/* A list of calls from a fresh cursor: every position, absent, then refused. It ends after forty
+ * matches. */
 static void try_list(unsigned width)
 {
     text t, needle;
@@ -910,8 +919,8 @@ static void try_column(void)
     settle();
 }
 
-/* The input of a report: mostly a small needle, a line feed and a text; also no line feed, needles around 1,024, and
- * lengths at and above 65,536. */
+/* The input of a report: mostly a small needle, a line feed and a text; also no line feed, needles
+ * around 1,024, and lengths at and above 65,536. */
 static void draw_input(text *input)
 {
     uint64_t kind = below(4096);
@@ -980,8 +989,8 @@ static size_t check_report(const text *input, const uint8_t *page)
     return bytes + 19;
 }
 
-/* A page is long, so its bytes are those that earlier reports left, and only those around the lines are looked at here;
- * the others are with the arenas, from time to time. */
+/* A page is long, so its bytes are those that earlier reports left, and only those around the lines
+ * are looked at here; the others are with the arenas, from time to time. */
 static void try_report(void)
 {
     text input;
@@ -1028,10 +1037,15 @@ static void try_refusal_line(void)
 /* ---- the run ---- */
 
 static void (*const tries[])(void) = {
-    try_pcmpestri, try_pcmpestrm, try_pcmpistri, try_pcmpistrm, try_0c, try_0d, try_18, try_19, /* the unit */
-    try_fresh, try_next_bytes, try_next_words,                                                  /* the search */
-    try_span_bytes, try_span_words, try_ranges_bytes, try_ranges_words,                         /* leading runs */
-    try_compare_bytes, try_compare_words, try_lesser_bytes, try_lesser_words,                   /* orders */
+    /* the unit */
+    try_pcmpestri, try_pcmpestrm, try_pcmpistri, try_pcmpistrm, try_0c, try_0d, try_18, try_19,
+    /* the search */
+    try_fresh, try_next_bytes, try_next_words,
+    /* leading runs */
+    try_span_bytes, try_span_words, try_ranges_bytes, try_ranges_words,
+    /* orders */
+    try_compare_bytes, try_compare_words, try_lesser_bytes, try_lesser_words,
+    /* columns and the report */
     try_column, try_report, try_refusal_line,
 };
 

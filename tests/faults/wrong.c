@@ -1,7 +1,8 @@
 /*
- * Wrong versions of the library's functions, to see that faults.c finds them. Linked with -Wl,--wrap=NAME for each
- * function here: a call of NAME gets __wrap_NAME, and the library's own is __real_NAME. The environment variable WRONG
- * has the number of the mistake; with none, every call does what the library does.
+ * Wrong versions of the library's functions, to see that faults.c finds them. Linked with
+ * -Wl,--wrap=NAME for each function here: a call of NAME gets __wrap_NAME, and the library's own is
+ * __real_NAME. The environment variable WRONG has the number of the mistake; without it, every call
+ * does what the library does.
  */
 #include <stdlib.h>
 #include <string.h>
@@ -43,7 +44,7 @@ WRAPPED(uint32_t, hx_pcmpistri,
     uint32_t r = __real_hx_pcmpistri(operand1, operand2, control, index, flags);
     if (wrong(4) && r != 0) /* a refused call writes */
         *index = 0;
-    if (wrong(5)) /* control 128 is taken for 0 */
+    if (wrong(5)) /* a control above 127 is taken for the one 128 below */
         return __real_hx_pcmpistri(operand1, operand2, control & 127, index, flags);
     return r;
 }
@@ -95,7 +96,8 @@ WRAPPED(uint32_t, hx_next_in_bytes,
         sink = text[text_length];
     if (wrong(13) && r == HX_ABSENT) /* tells a position with absent */
         *position = from;
-    if (wrong(14) && r == HX_EXHAUSTED_REFUSED && from > text_length + 1) /* the higher number first */
+    /* the higher number first */
+    if (wrong(14) && r == HX_EXHAUSTED_REFUSED && from > text_length + 1)
         return HX_POSITION_REFUSED;
     if (wrong(15) && r == HX_COMPARES_REFUSED) /* a number that is none */
         return 25;
@@ -107,7 +109,7 @@ WRAPPED(uint32_t, hx_next_in_words,
          uint64_t *position))
 {
     uint32_t r = __real_hx_next_in_words(cursor, text, text_length, needle, needle_length, position);
-    if (wrong(16) && r == HX_EXHAUSTED_REFUSED) /* a refused call writes the cursor: what is not 0 is now 1 */
+    if (wrong(16) && r == HX_EXHAUSTED_REFUSED) /* a refused call writes 1 for what is not 0 */
         cursor->exhausted = 1;
     if (wrong(17) && r == HX_MATCH && needle_length != 0) /* reads before the needle */
         sink = (uint8_t)needle[-1];

@@ -1,8 +1,9 @@
 /* Prints what the program `vectors` must print, from the processor's own SSE4.2 instructions.
  *
- * A line for each of the four instructions and each control from 00h to 7Fh, with a digest of the answers over 256 generated blocks. The
- * generator, the blocks and the digest are those of crates/vectors/src/main.rt, under the same names. Nothing
- * here computes what an instruction answers: index, mask and flags are read from the processor.
+ * A line for each of the four instructions and each control from 00h to 7Fh, with a digest of the
+ * answers over 256 generated blocks. The generator, the blocks and the digest are those of
+ * crates/vectors/src/main.rt, under the same names. Nothing here computes what an instruction
+ * answers: index, mask and flags are read from the processor.
  */
 #include <emmintrin.h>
 #include <stdint.h>
@@ -33,9 +34,10 @@ struct answer {
     uint8_t ah, overflow;
 };
 
-/* The four instructions. The control is part of the instruction, so each control has code of its own, a case of a switch.
- * Before it, 10h - 01h sets AF and PF, so that the instruction is seen to reset them. After it, LAHF copies SF, ZF, AF, PF and CF to AH, and
- * SETO copies OF to AL. Operand 1 is the destination, which AT&T syntax writes last. */
+/* The four instructions. The control is part of the instruction, so each control has code of its
+ * own, a case of a switch. Before it, 10h - 01h sets AF and PF, so that the instruction is seen to
+ * reset them. After it, LAHF copies SF, ZF, AF, PF and CF to AH, and SETO copies OF to AL. Operand
+ * 1 is the destination, which AT&T syntax writes last. */
 #define PREPARE "movb $0x10, %%sil\n\tsubb $1, %%sil\n\t"
 #define TAKE_FLAGS "\n\tlahf\n\tseto %%al"
 
