@@ -19,7 +19,8 @@ fn bit(t: bool) -> u16
 
 // Four bits, lowest first. The sum is a tree, for speed (docs/PERFORMANCE.md).
 fn four(a: bool, b: bool, c: bool, d: bool) -> u16
-    ensures { λ r. ⌜ (r ≡ cond a 1 0 + 2 * cond b 1 0 + 4 * (cond c 1 0 + 2 * cond d 1 0)) × (r < 16) ⌝ }
+    ensures { λ r. ⌜ (r ≡ cond a 1 0 + 2 * cond b 1 0 + 4 * (cond c 1 0 + 2 * cond d 1 0))
+        × (r < 16) ⌝ }
 {
     (bit(a) + bit(b) * 2) + (bit(c) + bit(d) * 2) * 4
 }
@@ -41,7 +42,9 @@ fn sixteen(low: u16, high: u16) -> u32
 
 // Bit j: x[j] is y[j], for the first eight bytes and for the others.
 fn alike_low(x: &[u8; 16], y: &[u8; 16]) -> u16
-    ensures { λ r. ⌜ (r ≡ eightBits (λ j. eqb (getD (now (x .entry)) j 0) (getD (now (y .entry)) j 0))) × (r < 256) ⌝ }
+    ensures { λ r. ⌜
+        (r ≡ eightBits (λ j. eqb (getD (now (x .entry)) j 0) (getD (now (y .entry)) j 0)))
+        × (r < 256) ⌝ }
 {
     eight(
         four(x[0] == y[0], x[1] == y[1], x[2] == y[2], x[3] == y[3]),
@@ -50,7 +53,10 @@ fn alike_low(x: &[u8; 16], y: &[u8; 16]) -> u16
 }
 
 fn alike_high(x: &[u8; 16], y: &[u8; 16]) -> u16
-    ensures { λ r. ⌜ (r ≡ eightBits (λ j. eqb (getD (now (x .entry)) (8 + j) 0) (getD (now (y .entry)) (8 + j) 0))) × (r < 256) ⌝ }
+    ensures { λ r. ⌜ (r
+        ≡ eightBits
+        (λ j. eqb (getD (now (x .entry)) (8 + j) 0) (getD (now (y .entry)) (8 + j) 0)))
+        × (r < 256) ⌝ }
 {
     eight(
         four(x[8] == y[8], x[9] == y[9], x[10] == y[10], x[11] == y[11]),
@@ -65,13 +71,16 @@ fn alike_high(x: &[u8; 16], y: &[u8; 16]) -> u16
 
 // Bit j: x[j] is y[j].
 pub fn alike_bytes(x: &[u8; 16], y: &[u8; 16]) -> u32
-    ensures { λ r. ⌜ r ≡ numberOf 16 (λ j. eqb (getD (now (x .entry)) j 0) (getD (now (y .entry)) j 0)) ⌝ }
+    ensures { λ r. ⌜ r
+        ≡ numberOf 16 (λ j. eqb (getD (now (x .entry)) j 0) (getD (now (y .entry)) j 0)) ⌝ }
 {
     sixteen(alike_low(x, y), alike_high(x, y))
 }
 
 fn alike_eight(x: &[u16; 8], y: &[u16; 8]) -> u16
-    ensures { λ r. ⌜ (r ≡ eightBits (λ j. eqb (getD (now (x .entry)) j 0) (getD (now (y .entry)) j 0))) × (r < 256) ⌝ }
+    ensures { λ r. ⌜
+        (r ≡ eightBits (λ j. eqb (getD (now (x .entry)) j 0) (getD (now (y .entry)) j 0)))
+        × (r < 256) ⌝ }
 {
     eight(
         four(x[0] == y[0], x[1] == y[1], x[2] == y[2], x[3] == y[3]),
@@ -80,7 +89,8 @@ fn alike_eight(x: &[u16; 8], y: &[u16; 8]) -> u16
 }
 
 pub fn alike_words(x: &[u16; 8], y: &[u16; 8]) -> u32
-    ensures { λ r. ⌜ r ≡ numberOf 8 (λ j. eqb (getD (now (x .entry)) j 0) (getD (now (y .entry)) j 0)) ⌝ }
+    ensures { λ r. ⌜ r
+        ≡ numberOf 8 (λ j. eqb (getD (now (x .entry)) j 0) (getD (now (y .entry)) j 0)) ⌝ }
 {
     alike_eight(x, y) as u32
 }

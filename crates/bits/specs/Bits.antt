@@ -36,4 +36,11 @@ numberOf (suc n) p = numberOf n p + cond (p n) (2 ^ n) zero
 -- eight bits, written out: `numberOf 8 p`
 abbrev pub eightBits : (ℕ → Bool) → ℕ
 eightBits p =
-    cond (p 0) 1 0 + 2 * (cond (p 1) 1 0 + 2 * (cond (p 2) 1 0 + 2 * (cond (p 3) 1 0 + 2 * (cond (p 4) 1 0 + 2 * (cond (p 5) 1 0 + 2 * (cond (p 6) 1 0 + 2 * (cond (p 7) 1 0 + 2 * 0)))))))
+    cond (p 0) 1 0
+    + 2 * (cond (p 1) 1 0
+    + 2 * (cond (p 2) 1 0
+    + 2 * (cond (p 3) 1 0
+    + 2 * (cond (p 4) 1 0
+    + 2 * (cond (p 5) 1 0
+    + 2 * (cond (p 6) 1 0
+    + 2 * (cond (p 7) 1 0 + 2 * 0)))))))

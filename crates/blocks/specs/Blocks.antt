@@ -33,7 +33,9 @@ stores f (suc k) bytes = set (stores f k bytes) k (f k)
 -- A compare is a call of the unit: the index that it answers for two parts, each at its own length.
 -- c is the control in bytes.
 unfoldable pub compareIndex : Bool → ℕ → List ℕ → List ℕ → ℕ
-compareIndex words c x y = PCMPESTRI (operandOf words x) (pos (length x)) (operandOf words y) (pos (length y)) (c + cond words 1 0) .index
+compareIndex words c x y =
+    PCMPESTRI (operandOf words x) (pos (length x)) (operandOf words y) (pos (length y))
+    (c + cond words 1 0) .index
 
 -- equal each, negated, least: where two parts first differ
 abbrev pub eachNegated : ℕ

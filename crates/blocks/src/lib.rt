@@ -48,7 +48,9 @@ pub fn whole_bytes(part: &[u8]) -> [u8; 16]
 // Writes a part in bytes over the front of an operand, as far as both go. An operand that is filled
 // where it stands is not copied.
 pub fn fill_bytes(bytes: &mut [u8; 16], part: &[u8])
-    ensures { λ _. ⌜ now (bytes .exit) ≡ stores (operandByte inBytes (now (part .entry))) (min (length (now (part .entry))) 16) (now (bytes .entry)) ⌝ }
+    ensures { λ _. ⌜ now (bytes .exit)
+        ≡ stores (operandByte inBytes (now (part .entry))) (min (length (now (part .entry))) 16)
+        (now (bytes .entry)) ⌝ }
 {
     let n = bits::min(part.len(), 16);
     let mut i = 0;

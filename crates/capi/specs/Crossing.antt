@@ -33,7 +33,8 @@ truth n = not (eqb n 0)
 -- 7, OF 11
 unfoldable pub eflags : Flags → ℕ
 eflags f =
-    cond (f .carry) 1 0 + cond (f .parity) 4 0 + cond (f .auxiliary) 16 0 + cond (f .zero) 64 0 + cond (f .sign) 128 0 + cond (f .overflow) 2048 0
+    cond (f .carry) 1 0 + cond (f .parity) 4 0 + cond (f .auxiliary) 16 0 + cond (f .zero) 64 0
+    + cond (f .sign) 128 0 + cond (f .overflow) 2048 0
 
 -- an index call: its answer, index and flags before the call, what it returns, index and flags
 -- after it
@@ -43,7 +44,8 @@ pub record IndexGiven (a : IndexAnswer) (index flags r index' flags' : ℕ) : Ty
   pub flags-after : flags' ≡ unlessRefused (a .refusal) (eflags (a .flags)) flags
 
 -- a mask call, in the same way
-pub record MaskGiven (a : MaskAnswer) (mask : List ℕ) (flags r : ℕ) (mask' : List ℕ) (flags' : ℕ) : Type 0 where
+pub record MaskGiven (a : MaskAnswer) (mask : List ℕ) (flags r : ℕ) (mask' : List ℕ) (flags' : ℕ)
+    : Type 0 where
   pub number : r ≡ a .refusal
   pub mask-after : mask' ≡ unlessRefused (a .refusal) (a .mask) mask
   pub flags-after : flags' ≡ unlessRefused (a .refusal) (eflags (a .flags)) flags
@@ -80,7 +82,8 @@ positionAfter (refused number) old = old
 
 -- next match: its answer, cursor and position before the call, what it returns, cursor and position
 -- after it
-pub record NextGiven (a : Next) (cursor : List ℕ) (position r : ℕ) (cursor' : List ℕ) (position' : ℕ) : Type 0 where
+pub record NextGiven (a : Next) (cursor : List ℕ) (position r : ℕ) (cursor' : List ℕ)
+    (position' : ℕ) : Type 0 where
   pub status : r ≡ statusOf (said a)
   pub cursor-after : cursor' ≡ cursorAfter (said a) (nextCursor a) cursor
   pub position-after : position' ≡ positionAfter (said a) position

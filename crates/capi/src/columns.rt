@@ -20,7 +20,8 @@ pub extern "C" fn hx_report(
     page: &mut [u8; report::LONGEST_REPORT],
     written: &mut usize,
 ) -> u32
-    ensures { λ r. ⌜ ReportGiven (now (input .entry)) (now (page .entry)) (now (written .entry)) r (now (page .exit)) (now (written .exit)) ⌝ }
+    ensures { λ r. ⌜ ReportGiven (now (input .entry)) (now (page .entry)) (now (written .entry)) r
+        (now (page .exit)) (now (written .exit)) ⌝ }
 {
     let told = report::report(input, page);
     give_number(told.refusal, told.written, written)

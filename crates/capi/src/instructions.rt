@@ -35,7 +35,8 @@ fn eflags(f: Flags) -> u32
 
 // Hands an index call's answer to the caller.
 fn give_index(answer: IndexAnswer, index: &mut u32, flags: &mut u32) -> u32
-    ensures { λ r. ⌜ IndexGiven answer (now (index .entry)) (now (flags .entry)) r (now (index .exit)) (now (flags .exit)) ⌝ }
+    ensures { λ r. ⌜ IndexGiven answer (now (index .entry)) (now (flags .entry)) r
+        (now (index .exit)) (now (flags .exit)) ⌝ }
 {
     if answer.refusal == 0 {
         *index = answer.index;
@@ -46,7 +47,8 @@ fn give_index(answer: IndexAnswer, index: &mut u32, flags: &mut u32) -> u32
 
 // Hands a mask call's answer to the caller.
 fn give_mask(masked: MaskAnswer, mask: &mut [u8; 16], flags: &mut u32) -> u32
-    ensures { λ r. ⌜ MaskGiven masked (now (mask .entry)) (now (flags .entry)) r (now (mask .exit)) (now (flags .exit)) ⌝ }
+    ensures { λ r. ⌜ MaskGiven masked (now (mask .entry)) (now (flags .entry)) r (now (mask .exit))
+        (now (flags .exit)) ⌝ }
 {
     if masked.refusal == 0 {
         let made = masked.mask;
@@ -67,7 +69,9 @@ pub extern "C" fn hx_pcmpestri(
     index: &mut u32,
     flags: &mut u32,
 ) -> u32
-    ensures { λ r. ⌜ IndexGiven (PCMPESTRI (now (operand1 .entry)) length1 (now (operand2 .entry)) length2 control) (now (index .entry)) (now (flags .entry)) r (now (index .exit)) (now (flags .exit)) ⌝ }
+    ensures { λ r. ⌜ IndexGiven
+        (PCMPESTRI (now (operand1 .entry)) length1 (now (operand2 .entry)) length2 control)
+        (now (index .entry)) (now (flags .entry)) r (now (index .exit)) (now (flags .exit)) ⌝ }
 {
     give_index(
         pcmpstr::pcmpestri(*operand1, length1, *operand2, length2, control),
@@ -87,7 +91,9 @@ pub extern "C" fn hx_pcmpestrm(
     mask: &mut [u8; 16],
     flags: &mut u32,
 ) -> u32
-    ensures { λ r. ⌜ MaskGiven (PCMPESTRM (now (operand1 .entry)) length1 (now (operand2 .entry)) length2 control) (now (mask .entry)) (now (flags .entry)) r (now (mask .exit)) (now (flags .exit)) ⌝ }
+    ensures { λ r. ⌜ MaskGiven
+        (PCMPESTRM (now (operand1 .entry)) length1 (now (operand2 .entry)) length2 control)
+        (now (mask .entry)) (now (flags .entry)) r (now (mask .exit)) (now (flags .exit)) ⌝ }
 {
     give_mask(
         pcmpstr::pcmpestrm(*operand1, length1, *operand2, length2, control),
@@ -105,7 +111,8 @@ pub extern "C" fn hx_pcmpistri(
     index: &mut u32,
     flags: &mut u32,
 ) -> u32
-    ensures { λ r. ⌜ IndexGiven (PCMPISTRI (now (operand1 .entry)) (now (operand2 .entry)) control) (now (index .entry)) (now (flags .entry)) r (now (index .exit)) (now (flags .exit)) ⌝ }
+    ensures { λ r. ⌜ IndexGiven (PCMPISTRI (now (operand1 .entry)) (now (operand2 .entry)) control)
+        (now (index .entry)) (now (flags .entry)) r (now (index .exit)) (now (flags .exit)) ⌝ }
 {
     give_index(
         pcmpstr::pcmpistri(*operand1, *operand2, control),
@@ -123,7 +130,8 @@ pub extern "C" fn hx_pcmpistrm(
     mask: &mut [u8; 16],
     flags: &mut u32,
 ) -> u32
-    ensures { λ r. ⌜ MaskGiven (PCMPISTRM (now (operand1 .entry)) (now (operand2 .entry)) control) (now (mask .entry)) (now (flags .entry)) r (now (mask .exit)) (now (flags .exit)) ⌝ }
+    ensures { λ r. ⌜ MaskGiven (PCMPISTRM (now (operand1 .entry)) (now (operand2 .entry)) control)
+        (now (mask .entry)) (now (flags .entry)) r (now (mask .exit)) (now (flags .exit)) ⌝ }
 {
     give_mask(
         pcmpstr::pcmpistrm(*operand1, *operand2, control),
@@ -140,7 +148,9 @@ pub extern "C" fn hx_pcmpestri_0c(
     operand2: &[u8; 16],
     length2: usize,
 ) -> u32
-    ensures { λ r. ⌜ r ≡ PCMPESTRI (now (operand1 .entry)) (pos length1) (now (operand2 .entry)) (pos length2) 0x0C .index ⌝ }
+    ensures { λ r. ⌜ r
+        ≡ PCMPESTRI (now (operand1 .entry)) (pos length1) (now (operand2 .entry)) (pos length2)
+        0x0C .index ⌝ }
 {
     pcmpstr::pcmpestri_0c(*operand1, length1, *operand2, length2)
 }
@@ -153,7 +163,9 @@ pub extern "C" fn hx_pcmpestri_0d(
     operand2: &[u8; 16],
     length2: usize,
 ) -> u32
-    ensures { λ r. ⌜ r ≡ PCMPESTRI (now (operand1 .entry)) (pos length1) (now (operand2 .entry)) (pos length2) 0x0D .index ⌝ }
+    ensures { λ r. ⌜ r
+        ≡ PCMPESTRI (now (operand1 .entry)) (pos length1) (now (operand2 .entry)) (pos length2)
+        0x0D .index ⌝ }
 {
     pcmpstr::pcmpestri_0d(*operand1, length1, *operand2, length2)
 }
@@ -166,7 +178,9 @@ pub extern "C" fn hx_pcmpestri_18(
     operand2: &[u8; 16],
     length2: usize,
 ) -> u32
-    ensures { λ r. ⌜ r ≡ PCMPESTRI (now (operand1 .entry)) (pos length1) (now (operand2 .entry)) (pos length2) 0x18 .index ⌝ }
+    ensures { λ r. ⌜ r
+        ≡ PCMPESTRI (now (operand1 .entry)) (pos length1) (now (operand2 .entry)) (pos length2)
+        0x18 .index ⌝ }
 {
     pcmpstr::pcmpestri_18(*operand1, length1, *operand2, length2)
 }
@@ -179,7 +193,9 @@ pub extern "C" fn hx_pcmpestri_19(
     operand2: &[u8; 16],
     length2: usize,
 ) -> u32
-    ensures { λ r. ⌜ r ≡ PCMPESTRI (now (operand1 .entry)) (pos length1) (now (operand2 .entry)) (pos length2) 0x19 .index ⌝ }
+    ensures { λ r. ⌜ r
+        ≡ PCMPESTRI (now (operand1 .entry)) (pos length1) (now (operand2 .entry)) (pos length2)
+        0x19 .index ⌝ }
 {
     pcmpstr::pcmpestri_19(*operand1, length1, *operand2, length2)
 }

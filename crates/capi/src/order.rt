@@ -40,7 +40,9 @@ pub extern "C" fn hx_compare_in_bytes(
     signed: u32,
     order: &mut i32,
 ) -> u32
-    ensures { λ r. ⌜ OrderGiven (orderAnswer inBytes (truth signed) (now (first .entry)) (now (second .entry))) (now (order .entry)) r (now (order .exit)) ⌝ }
+    ensures { λ r. ⌜ OrderGiven
+        (orderAnswer inBytes (truth signed) (now (first .entry)) (now (second .entry)))
+        (now (order .entry)) r (now (order .exit)) ⌝ }
 {
     give_order(bytes::compare(first, second, truth(signed)), order)
 }
@@ -53,7 +55,9 @@ pub extern "C" fn hx_compare_in_words(
     signed: u32,
     order: &mut i32,
 ) -> u32
-    ensures { λ r. ⌜ OrderGiven (orderAnswer inWords (truth signed) (now (first .entry)) (now (second .entry))) (now (order .entry)) r (now (order .exit)) ⌝ }
+    ensures { λ r. ⌜ OrderGiven
+        (orderAnswer inWords (truth signed) (now (first .entry)) (now (second .entry)))
+        (now (order .entry)) r (now (order .exit)) ⌝ }
 {
     give_order(words::compare(first, second, truth(signed)), order)
 }
@@ -66,7 +70,10 @@ pub extern "C" fn hx_lesser_in_bytes(
     signed: u32,
     which: &mut u32,
 ) -> u32
-    ensures { λ r. ⌜ NumberGiven (orderRefusal (length (now (first .entry))) (length (now (second .entry)))) (cond (isSecond inBytes (truth signed) (now (first .entry)) (now (second .entry))) 1 0) (now (which .entry)) r (now (which .exit)) ⌝ }
+    ensures { λ r. ⌜ NumberGiven
+        (orderRefusal (length (now (first .entry))) (length (now (second .entry))))
+        (cond (isSecond inBytes (truth signed) (now (first .entry)) (now (second .entry))) 1 0)
+        (now (which .entry)) r (now (which .exit)) ⌝ }
 {
     give_lesser(bytes::compare(first, second, truth(signed)), which)
 }
@@ -79,7 +86,10 @@ pub extern "C" fn hx_lesser_in_words(
     signed: u32,
     which: &mut u32,
 ) -> u32
-    ensures { λ r. ⌜ NumberGiven (orderRefusal (length (now (first .entry))) (length (now (second .entry)))) (cond (isSecond inWords (truth signed) (now (first .entry)) (now (second .entry))) 1 0) (now (which .entry)) r (now (which .exit)) ⌝ }
+    ensures { λ r. ⌜ NumberGiven
+        (orderRefusal (length (now (first .entry))) (length (now (second .entry))))
+        (cond (isSecond inWords (truth signed) (now (first .entry)) (now (second .entry))) 1 0)
+        (now (which .entry)) r (now (which .exit)) ⌝ }
 {
     give_lesser(words::compare(first, second, truth(signed)), which)
 }

@@ -12,7 +12,10 @@ ghost use Rattle.capi.specs.Crossing.{NumberGiven, truth};
 // How long the longest front of a text is whose bytes are all in a set.
 #[no_mangle]
 pub extern "C" fn hx_span_in_bytes(text: &[u8], set: &[u8], span: &mut usize) -> u32
-    ensures { λ r. ⌜ NumberGiven (setRefusal inBytes (length (now (text .entry))) (length (now (set .entry)))) (length (setSpan inBytes (now (text .entry)) (now (set .entry)))) (now (span .entry)) r (now (span .exit)) ⌝ }
+    ensures { λ r. ⌜ NumberGiven
+        (setRefusal inBytes (length (now (text .entry))) (length (now (set .entry))))
+        (length (setSpan inBytes (now (text .entry)) (now (set .entry)))) (now (span .entry)) r
+        (now (span .exit)) ⌝ }
 {
     let part = bytes::span(text, set);
     give_number(bytes::span_refusal(text, set), part.len(), span)
@@ -21,7 +24,10 @@ pub extern "C" fn hx_span_in_bytes(text: &[u8], set: &[u8], span: &mut usize) ->
 // The same in words.
 #[no_mangle]
 pub extern "C" fn hx_span_in_words(text: &[u16], set: &[u16], span: &mut usize) -> u32
-    ensures { λ r. ⌜ NumberGiven (setRefusal inWords (length (now (text .entry))) (length (now (set .entry)))) (length (setSpan inWords (now (text .entry)) (now (set .entry)))) (now (span .entry)) r (now (span .exit)) ⌝ }
+    ensures { λ r. ⌜ NumberGiven
+        (setRefusal inWords (length (now (text .entry))) (length (now (set .entry))))
+        (length (setSpan inWords (now (text .entry)) (now (set .entry)))) (now (span .entry)) r
+        (now (span .exit)) ⌝ }
 {
     let part = words::span(text, set);
     give_number(words::span_refusal(text, set), part.len(), span)
@@ -35,7 +41,10 @@ pub extern "C" fn hx_range_span_in_bytes(
     signed: u32,
     span: &mut usize,
 ) -> u32
-    ensures { λ r. ⌜ NumberGiven (boundsRefusal inBytes (length (now (text .entry))) (length (now (bounds .entry)))) (length (rangeSpan inBytes (truth signed) (now (text .entry)) (now (bounds .entry)))) (now (span .entry)) r (now (span .exit)) ⌝ }
+    ensures { λ r. ⌜ NumberGiven
+        (boundsRefusal inBytes (length (now (text .entry))) (length (now (bounds .entry))))
+        (length (rangeSpan inBytes (truth signed) (now (text .entry)) (now (bounds .entry))))
+        (now (span .entry)) r (now (span .exit)) ⌝ }
 {
     let part = bytes::range_span(text, bounds, truth(signed));
     give_number(
@@ -53,7 +62,10 @@ pub extern "C" fn hx_range_span_in_words(
     signed: u32,
     span: &mut usize,
 ) -> u32
-    ensures { λ r. ⌜ NumberGiven (boundsRefusal inWords (length (now (text .entry))) (length (now (bounds .entry)))) (length (rangeSpan inWords (truth signed) (now (text .entry)) (now (bounds .entry)))) (now (span .entry)) r (now (span .exit)) ⌝ }
+    ensures { λ r. ⌜ NumberGiven
+        (boundsRefusal inWords (length (now (text .entry))) (length (now (bounds .entry))))
+        (length (rangeSpan inWords (truth signed) (now (text .entry)) (now (bounds .entry))))
+        (now (span .entry)) r (now (span .exit)) ⌝ }
 {
     let part = words::range_span(text, bounds, truth(signed));
     give_number(

@@ -34,7 +34,8 @@ fn numbers_of(cursor: Cursor) -> [u64; 3]
 
 // Hands the answer of a search to the caller.
 fn give_next(next: Next, cursor: &mut [u64; 3], position: &mut u64) -> u32
-    ensures { λ r. ⌜ NextGiven next (now (cursor .entry)) (now (position .entry)) r (now (cursor .exit)) (now (position .exit)) ⌝ }
+    ensures { λ r. ⌜ NextGiven next (now (cursor .entry)) (now (position .entry)) r
+        (now (cursor .exit)) (now (position .exit)) ⌝ }
 {
     match next {
         Next::Match(p, after) => {
@@ -66,7 +67,11 @@ pub extern "C" fn hx_next_in_bytes(
     needle: &[u8],
     position: &mut u64,
 ) -> u32
-    ensures { λ r. ⌜ NextGiven (nextMatch inBytes (now (text .entry)) (now (needle .entry)) (cursorOf (now (cursor .entry)))) (now (cursor .entry)) (now (position .entry)) r (now (cursor .exit)) (now (position .exit)) ⌝ }
+    ensures { λ r. ⌜ NextGiven
+        (nextMatch inBytes (now (text .entry)) (now (needle .entry))
+        (cursorOf (now (cursor .entry))))
+        (now (cursor .entry)) (now (position .entry)) r (now (cursor .exit))
+        (now (position .exit)) ⌝ }
 {
     let next = cursor_of(*cursor).next_in_bytes(text, needle);
     give_next(next, cursor, position)
@@ -80,7 +85,11 @@ pub extern "C" fn hx_next_in_words(
     needle: &[u16],
     position: &mut u64,
 ) -> u32
-    ensures { λ r. ⌜ NextGiven (nextMatch inWords (now (text .entry)) (now (needle .entry)) (cursorOf (now (cursor .entry)))) (now (cursor .entry)) (now (position .entry)) r (now (cursor .exit)) (now (position .exit)) ⌝ }
+    ensures { λ r. ⌜ NextGiven
+        (nextMatch inWords (now (text .entry)) (now (needle .entry))
+        (cursorOf (now (cursor .entry))))
+        (now (cursor .entry)) (now (position .entry)) r (now (cursor .exit))
+        (now (position .exit)) ⌝ }
 {
     let next = cursor_of(*cursor).next_in_words(text, needle);
     give_next(next, cursor, position)

@@ -39,7 +39,8 @@ refusalOf n w room = refusalFor (length (digits n)) w room
 -- the buffer after the call: unchanged where it was refused; else the column at the front, and the
 -- bytes after the width as they were
 unfoldable pub written : ℕ → ℕ → List ℕ → List ℕ
-written n w buffer = cond (eqb (refusalOf n w (length buffer)) 0) (column n w ++ drop w buffer) buffer
+written n w buffer =
+    cond (eqb (refusalOf n w (length buffer)) 0) (column n w ++ drop w buffer) buffer
 
 -- the call: what it answers, and the buffer that it leaves
 pub record RightJustified (n w : ℕ) (before after : List ℕ) (r : ℕ) : Type 0 where

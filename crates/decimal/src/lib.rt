@@ -76,7 +76,9 @@ fn put_spaces(end: usize, buffer: &mut [u8])
 // Writes the digits of a number so that they end before `end`, the last one first.
 fn put_digits(number: u64, end: usize, buffer: &mut [u8])
     requires { ⌜ (length (digits number) ≤ end) × (end ≤ length (now buffer)) ⌝ }
-    ensures { λ _. ⌜ now (buffer .exit) ≡ take (end - length (digits number)) (now (buffer .entry)) ++ (digits number ++ drop end (now (buffer .entry))) ⌝ }
+    ensures { λ _. ⌜ now (buffer .exit)
+        ≡ take (end - length (digits number)) (now (buffer .entry))
+        ++ (digits number ++ drop end (now (buffer .entry))) ⌝ }
 {
     let mut rest = number;
     let mut at = end;

@@ -72,7 +72,10 @@ fn mark(low: bool, high: bool) -> u8
 
 // The row with 255 set too where an element of x lies from low to high.
 fn within(signed: bool, x: [u8; 16], low: u8, high: u8, row: [u8; 16]) -> [u8; 16]
-    ensures { λ r. ⌜ r ≡ tabulate 16 (λ j. bitOr (getD row j 0) (cond (between (valueOf inBytes signed) low high (getD x j 0)) 255 0)) ⌝ }
+    ensures { λ r. ⌜ r
+        ≡ tabulate 16
+        (λ j. bitOr (getD row j 0)
+        (cond (between (valueOf inBytes signed) low high (getD x j 0)) 255 0)) ⌝ }
 {
     let least = value(signed, low);
     let most = value(signed, high);
@@ -116,7 +119,8 @@ fn equal_each(x1: &[u8; 16], l1: usize, x2: &[u8; 16], l2: usize) -> u32
 // element or nowhere.
 fn differ(x1: &[u8; 16], l1: usize, x2: &[u8; 16], l2: usize) -> u32
     requires { ⌜ (l1 ≤ 16) × (l2 ≤ 16) ⌝ }
-    ensures { λ r. ⌜ r ≡ numberOf 16 (λ j. not (eachOf (now (x1 .entry)) l1 (now (x2 .entry)) l2 j)) ⌝ }
+    ensures { λ r. ⌜ r
+        ≡ numberOf 16 (λ j. not (eachOf (now (x1 .entry)) l1 (now (x2 .entry)) l2 j)) ⌝ }
 {
     let same = alike::alike_bytes(x2, x1);
     if l1 == l2 {
@@ -154,7 +158,8 @@ fn equal_ordered(x1: &[u8; 16], l1: usize, x2: &[u8; 16], l2: usize, valid: u32)
 // IntRes1.
 fn aggregated(k: Control, x1: &[u8; 16], l1: usize, x2: &[u8; 16], l2: usize) -> u32
     requires { ⌜ (k .words ≡ inBytes) × (l1 ≤ 16) × (l2 ≤ 16) ⌝ }
-    ensures { λ r. ⌜ r ≡ numberOf 16 (intRes1 (operands k (now (x1 .entry)) l1 (now (x2 .entry)) l2)) ⌝ }
+    ensures { λ r. ⌜ r
+        ≡ numberOf 16 (intRes1 (operands k (now (x1 .entry)) l1 (now (x2 .entry)) l2)) ⌝ }
 {
     let a = k.aggregation;
     match a {

@@ -76,7 +76,10 @@ fn mark(low: bool, high: bool) -> u16
 
 // The row with 65535 set too where an element of x lies from low to high.
 fn within(signed: bool, x: [u16; 8], low: u16, high: u16, row: [u16; 8]) -> [u16; 8]
-    ensures { λ r. ⌜ r ≡ tabulate 8 (λ j. bitOr (getD row j 0) (cond (between (valueOf inWords signed) low high (getD x j 0)) 65535 0)) ⌝ }
+    ensures { λ r. ⌜ r
+        ≡ tabulate 8
+        (λ j. bitOr (getD row j 0)
+        (cond (between (valueOf inWords signed) low high (getD x j 0)) 65535 0)) ⌝ }
 {
     let least = value(signed, low);
     let most = value(signed, high);
@@ -119,7 +122,8 @@ fn equal_each(x1: &[u16; 8], l1: usize, x2: &[u16; 8], l2: usize) -> u32
 // Where two parts of one length first differ, or 8. Word by word, for speed (docs/PERFORMANCE.md).
 fn same_length_differ_at(x1: &[u16; 8], x2: &[u16; 8], l: usize) -> u32
     requires { ⌜ l ≤ 8 ⌝ }
-    ensures { λ r. ⌜ r ≡ leastBelow 8 (λ j. not (eachOf (now (x1 .entry)) l (now (x2 .entry)) l j)) ⌝ }
+    ensures { λ r. ⌜ r
+        ≡ leastBelow 8 (λ j. not (eachOf (now (x1 .entry)) l (now (x2 .entry)) l j)) ⌝ }
 {
     let mut i = 0;
     while i < l {
@@ -135,7 +139,8 @@ fn same_length_differ_at(x1: &[u16; 8], x2: &[u16; 8], l: usize) -> u32
 // differ at a valid element or nowhere.
 fn differ_at(x1: &[u16; 8], l1: usize, x2: &[u16; 8], l2: usize) -> u32
     requires { ⌜ (l1 ≤ 8) × (l2 ≤ 8) ⌝ }
-    ensures { λ r. ⌜ r ≡ leastBelow 8 (λ j. not (eachOf (now (x1 .entry)) l1 (now (x2 .entry)) l2 j)) ⌝ }
+    ensures { λ r. ⌜ r
+        ≡ leastBelow 8 (λ j. not (eachOf (now (x1 .entry)) l1 (now (x2 .entry)) l2 j)) ⌝ }
 {
     if l1 == l2 {
         return same_length_differ_at(x1, x2, l1);
@@ -167,7 +172,8 @@ fn equal_ordered(x1: &[u16; 8], l1: usize, x2: &[u16; 8], l2: usize) -> u32
 // IntRes1.
 fn aggregated(k: Control, x1: &[u16; 8], l1: usize, x2: &[u16; 8], l2: usize) -> u32
     requires { ⌜ (k .words ≡ inWords) × (l1 ≤ 8) × (l2 ≤ 8) ⌝ }
-    ensures { λ r. ⌜ r ≡ numberOf 8 (intRes1 (operands k (now (x1 .entry)) l1 (now (x2 .entry)) l2)) ⌝ }
+    ensures { λ r. ⌜ r
+        ≡ numberOf 8 (intRes1 (operands k (now (x1 .entry)) l1 (now (x2 .entry)) l2)) ⌝ }
 {
     let a = k.aggregation;
     match a {

@@ -24,7 +24,8 @@ sign a b = cond (ltZ a b) (negsuc 0) (cond (ltZ b a) (pos 1) (pos 0))
 -- from the first difference, `value` being what an element stands for
 abbrev pub orderAt : (ℕ → ℤ) → List ℕ → List ℕ → ℕ → ℤ
 orderAt value x y k =
-    cond (ltb k (min (length x) (length y))) (sign (value (getD x k 0)) (value (getD y k 0))) (sign (pos (length x)) (pos (length y)))
+    cond (ltb k (min (length x) (length y))) (sign (value (getD x k 0)) (value (getD y k 0)))
+    (sign (pos (length x)) (pos (length y)))
 
 -- -1 where the first text is smaller, 0 where they are equal, else 1
 unfoldable pub order : Bool → Bool → List ℕ → List ℕ → ℤ
@@ -38,9 +39,11 @@ Elements words x = (i : ℕ) → i < length x → getD x i 0 < 2 ^ bitsOf words
 pub record IsOrder (words signed : Bool) : Type 0 where
   pub antisymmetric : (x y : List ℕ) → order words signed y x ≡ negℤ (order words signed x y)
   pub transitive : (x y z : List ℕ) → Elements words x → Elements words y → Elements words z
-      → leZ (order words signed x y) (pos 0) ≡ true → leZ (order words signed y z) (pos 0) ≡ true → leZ (order words signed x z) (pos 0) ≡ true
+      → leZ (order words signed x y) (pos 0) ≡ true → leZ (order words signed y z) (pos 0) ≡ true
+      → leZ (order words signed x z) (pos 0) ≡ true
   pub equal-gives-zero : (x : List ℕ) → order words signed x x ≡ pos 0
-  pub zero-only-for-equal : (x y : List ℕ) → Elements words x → Elements words y → order words signed x y ≡ pos 0 → x ≡ y
+  pub zero-only-for-equal : (x y : List ℕ) → Elements words x → Elements words y
+      → order words signed x y ≡ pos 0 → x ≡ y
 
 -- ---- the calls
 
@@ -51,12 +54,17 @@ orderRefusal n m = cond (ltb longestText n || ltb longestText m) 2 0
 -- refused, the number and an order of 0
 unfoldable pub orderAnswer : Bool → Bool → List ℕ → List ℕ → OrderAnswer
 orderAnswer words signed x y =
-    record { refusal = orderRefusal (length x) (length y); order = cond (eqb (orderRefusal (length x) (length y)) 0) (order words signed x y) (pos 0) }
+    record {
+      refusal = orderRefusal (length x) (length y);
+      order = cond (eqb (orderRefusal (length x) (length y)) 0) (order words signed x y) (pos 0);
+    }
 
 -- the second text is given back: it is the smaller one, and the call is not refused
 unfoldable pub isSecond : Bool → Bool → List ℕ → List ℕ → Bool
-isSecond words signed x y = eqb (orderRefusal (length x) (length y)) 0 && ltZ (pos 0) (order words signed x y)
+isSecond words signed x y =
+    eqb (orderRefusal (length x) (length y)) 0 && ltZ (pos 0) (order words signed x y)
 
 -- the smaller text, the first when equal; refused, the empty front of the first
 unfoldable pub lesserText : Bool → Bool → List ℕ → List ℕ → List ℕ
-lesserText words signed x y = cond (eqb (orderRefusal (length x) (length y)) 0) (cond (isSecond words signed x y) y x) []
+lesserText words signed x y =
+    cond (eqb (orderRefusal (length x) (length y)) 0) (cond (isSecond words signed x y) y x) []

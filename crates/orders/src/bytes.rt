@@ -61,7 +61,8 @@ pub fn compare(first: &[u8], second: &[u8], signed: bool) -> OrderAnswer
 
 // The number that refuses `lesser` with these arguments, or 0.
 pub fn lesser_refusal(first: &[u8], second: &[u8], _signed: bool) -> u32
-    ensures { λ r. ⌜ r ≡ orderRefusal (length (now (first .entry))) (length (now (second .entry))) ⌝ }
+    ensures { λ r. ⌜ r
+        ≡ orderRefusal (length (now (first .entry))) (length (now (second .entry))) ⌝ }
 {
     crate::order_refusal(first.len(), second.len())
 }
@@ -69,7 +70,10 @@ pub fn lesser_refusal(first: &[u8], second: &[u8], _signed: bool) -> u32
 // The smaller of two texts itself, the first when they are equal. Refused, the empty front of the
 // first.
 pub fn lesser<'a>(first: &'a [u8], second: &'a [u8], signed: bool) -> &'a [u8]
-    ensures { λ r. ⌜ (r .ptr ≡ cond (isSecond inBytes signed (now (first .entry)) (now (second .entry))) (second .entry .ptr) (first .entry .ptr)) × (now r ≡ lesserText inBytes signed (now (first .entry)) (now (second .entry))) ⌝ }
+    ensures { λ r. ⌜ (r .ptr
+        ≡ cond (isSecond inBytes signed (now (first .entry)) (now (second .entry)))
+        (second .entry .ptr) (first .entry .ptr))
+        × (now r ≡ lesserText inBytes signed (now (first .entry)) (now (second .entry))) ⌝ }
 {
     if lesser_refusal(first, second, signed) > 0 {
         return &first[..0];

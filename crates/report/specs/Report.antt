@@ -64,7 +64,9 @@ comparesFor text needle = walkCount inBytes text needle (suc (length (positions 
 
 -- the lines for a text and a needle
 unfoldable pub listing : List ℕ → List ℕ → List ℕ
-listing text needle = matchLines (positions text needle) ++ totalsLine (length (positions text needle)) (comparesFor text needle)
+listing text needle =
+    matchLines (positions text needle)
+    ++ totalsLine (length (positions text needle)) (comparesFor text needle)
 
 -- ---- what is printed
 

@@ -33,10 +33,13 @@ example =
 unfoldable pub smallest : Bool
 smallest =
     same (reportOf (10 ∷ [])) (digit 7 0 ++ (10 ∷ []) ++ digit 7 1 ++ digit 9 0 ++ (10 ∷ []))
-    && same (reportOf (10 ∷ 10 ∷ [])) (digit 7 0 ++ (10 ∷ []) ++ digit 7 1 ++ (10 ∷ []) ++ digit 7 2 ++ digit 9 0 ++ (10 ∷ []))
+    && same (reportOf (10 ∷ 10 ∷ []))
+    (digit 7 0 ++ (10 ∷ []) ++ digit 7 1 ++ (10 ∷ []) ++ digit 7 2 ++ digit 9 0 ++ (10 ∷ []))
     && same (reportOf (65 ∷ 10 ∷ [])) (digit 7 0 ++ digit 9 0 ++ (10 ∷ []))
-    && same (reportOf (65 ∷ 10 ∷ 65 ∷ [])) (digit 7 0 ++ (10 ∷ []) ++ digit 7 1 ++ digit 9 1 ++ (10 ∷ []))
-    && same (reportOf (65 ∷ 10 ∷ 65 ∷ 66 ∷ [])) (digit 7 0 ++ (10 ∷ []) ++ digit 7 1 ++ digit 9 2 ++ (10 ∷ []))
+    && same (reportOf (65 ∷ 10 ∷ 65 ∷ []))
+    (digit 7 0 ++ (10 ∷ []) ++ digit 7 1 ++ digit 9 1 ++ (10 ∷ []))
+    && same (reportOf (65 ∷ 10 ∷ 65 ∷ 66 ∷ []))
+    (digit 7 0 ++ (10 ∷ []) ++ digit 7 1 ++ digit 9 2 ++ (10 ∷ []))
 
 -- 7, 6, 3, in this order, each at its edge
 unfoldable pub refusals : Bool

@@ -50,7 +50,8 @@ pub record Put (bytes before after : List ℕ) (r : ℕ) : Type 0 where
 pub record Found (text needle before after : List ℕ) (t : Tally) : Type 0 where
   pub matches : t .matches ≡ length (positions text needle)
   pub compares : t .cursor .compares ≡ comparesFor text needle
-  pub page : after ≡ matchLines (positions text needle) ++ drop (length (positions text needle) * 9) before
+  pub page : after
+      ≡ matchLines (positions text needle) ++ drop (length (positions text needle) * 9) before
 
 -- the answer to an input that is refused
 abbrev pub refusedReport : ℕ → ReportAnswer

@@ -119,7 +119,8 @@ fn put_number(number: u64, page: &mut [u8])
 // Writes the totals at the front of the page.
 fn put_totals(matches: u64, compares: u64, page: &mut [u8])
     requires { ⌜ (matches < 100000000) × (compares < 10000000000) × (19 ≤ length (now page)) ⌝ }
-    ensures { λ _. ⌜ now (page .exit) ≡ totalsLine matches compares ++ drop 19 (now (page .entry)) ⌝ }
+    ensures { λ _. ⌜ now (page .exit)
+        ≡ totalsLine matches compares ++ drop 19 (now (page .entry)) ⌝ }
 {
     decimal::right_justified(matches, NUMBER_WIDTH, page);
     decimal::right_justified(compares, COMPARES_WIDTH, &mut page[NUMBER_WIDTH..]);
@@ -141,7 +142,8 @@ fn put_match(next: Next, at: usize, page: &mut [u8])
 // Finds every match, and writes its line into the page.
 fn put_matches(text: &[u8], needle: &[u8], page: &mut [u8]) -> Tally
     requires { ⌜ Listable (now text) (now needle) (now page) ⌝ }
-    ensures { λ r. ⌜ Found (now (text .entry)) (now (needle .entry)) (now (page .entry)) (now (page .exit)) r ⌝ }
+    ensures { λ r. ⌜ Found (now (text .entry)) (now (needle .entry)) (now (page .entry))
+        (now (page .exit)) r ⌝ }
 {
     let mut tally = Tally::begun();
     while tally.more {
@@ -156,7 +158,8 @@ fn put_matches(text: &[u8], needle: &[u8], page: &mut [u8]) -> Tally
 // Writes the lines for a text and a needle, and answers how many bytes they are.
 fn put_listing(text: &[u8], needle: &[u8], page: &mut [u8]) -> usize
     requires { ⌜ Listable (now text) (now needle) (now page) ⌝ }
-    ensures { λ r. ⌜ Put (listing (now (text .entry)) (now (needle .entry))) (now (page .entry)) (now (page .exit)) r ⌝ }
+    ensures { λ r. ⌜ Put (listing (now (text .entry)) (now (needle .entry))) (now (page .entry))
+        (now (page .exit)) r ⌝ }
 {
     let tally = put_matches(text, needle, page);
     let at = tally.matches * NUMBER_LINE;

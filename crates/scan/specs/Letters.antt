@@ -30,7 +30,9 @@ standsAt y x u j i = eqb (getD y (j + i) 0) x || getD u (16 * i + j) false
 -- the first four letters of xs do
 abbrev pub startsAt : List ℕ → List ℕ → List Bool → ℕ → Bool
 startsAt y xs u j =
-    ((standsAt y (getD xs 0 0) u j 0 && standsAt y (getD xs 1 0) u j 1) && standsAt y (getD xs 2 0) u j 2) && standsAt y (getD xs 3 0) u j 3
+    ((standsAt y (getD xs 0 0) u j 0 && standsAt y (getD xs 1 0) u j 1)
+    && standsAt y (getD xs 2 0) u j 2)
+    && standsAt y (getD xs 3 0) u j 3
 
 -- a block of bytes with the bytes ahead of it, and rows that ask for the first letter everywhere
 pub record Testable (part : List ℕ) (rows : List Bool) : Type 0 where
@@ -43,7 +45,8 @@ pub record Passed (words : Bool) (operand1 : List ℕ) (l : ℕ) (part : List �
   pub each : (k : ℕ) → k < i → indexIn words operand1 l part k ≡ count words
 
 -- The same, on from an earlier block.
-pub record Reached (words : Bool) (operand1 : List ℕ) (l : ℕ) (part : List ℕ) (from i : ℕ) : Type 0 where
+pub record Reached (words : Bool) (operand1 : List ℕ) (l : ℕ) (part : List ℕ) (from i : ℕ)
+    : Type 0 where
   pub passed : Passed words operand1 l part i
   pub onwards : from ≤ i
 

@@ -23,23 +23,28 @@ wholeBlocks words part = length part / count words
 -- One compare, at 0Ch, in words 0Dh: the index of operand 1, of length l, in block i of the part.
 unfoldable pub indexIn : Bool → List ℕ → ℕ → List ℕ → ℕ → ℕ
 indexIn words operand1 l part i =
-    PCMPESTRI operand1 (pos l) (operandOf words (take (count words) (drop (i * count words) part))) (pos (count words)) (0x0C + cond words 1 0) .index
+    PCMPESTRI operand1 (pos l) (operandOf words (take (count words) (drop (i * count words) part)))
+    (pos (count words)) (0x0C + cond words 1 0) .index
 
 abbrev pub scanned : ℕ → ℕ → Scanned
 scanned blocks index = record { blocks = blocks; index = index }
 
 -- the first block whose index is not b, or how many there are
 abbrev pub firstFound : Bool → List ℕ → ℕ → List ℕ → ℕ
-firstFound words operand1 l part = leastBelow (wholeBlocks words part) (λ i. not (eqb (indexIn words operand1 l part i) (count words)))
+firstFound words operand1 l part =
+    leastBelow (wholeBlocks words part)
+    (λ i. not (eqb (indexIn words operand1 l part i) (count words)))
 
 -- the index in block i, or b where the part has no such block
 abbrev pub indexOrNone : Bool → List ℕ → ℕ → List ℕ → ℕ → ℕ
-indexOrNone words operand1 l part i = cond (ltb i (wholeBlocks words part)) (indexIn words operand1 l part i) (count words)
+indexOrNone words operand1 l part i =
+    cond (ltb i (wholeBlocks words part)) (indexIn words operand1 l part i) (count words)
 
 -- The scan: how many blocks came before the first that has an index, and this index.
 unfoldable pub scanOf : Bool → List ℕ → ℕ → List ℕ → Scanned
 scanOf words operand1 l part =
-    scanned (firstFound words operand1 l part) (indexOrNone words operand1 l part (firstFound words operand1 l part))
+    scanned (firstFound words operand1 l part)
+    (indexOrNone words operand1 l part (firstFound words operand1 l part))
 
 -- ---- two parts, piece by piece
 
@@ -57,7 +62,10 @@ piece words n x i = take (min (count words) (n - i * count words)) (drop (i * co
 
 -- One compare, at 18h, in words 19h: piece i of x and piece i of y differ.
 abbrev pub piecesDiffer : Bool → List ℕ → List ℕ → ℕ → Bool
-piecesDiffer words x y i = ltb (compareIndex words eachNegated (piece words (common x y) x i) (piece words (common x y) y i)) (count words)
+piecesDiffer words x y i =
+    ltb
+    (compareIndex words eachNegated (piece words (common x y) x i) (piece words (common x y) y i))
+    (count words)
 
 -- How many pieces agree before the first that differs, or all.
 unfoldable pub agreeing : Bool → List ℕ → List ℕ → ℕ

@@ -24,7 +24,8 @@ fn stands(part: &[u8], letter: u8, rows: &[bool; 64], j: usize, i: usize) -> boo
 // always is. The tests are joined with no branch, for speed (docs/PERFORMANCE.md).
 fn may_start(part: &[u8], operand1: &[u8; 16], rows: &[bool; 64]) -> bool
     requires { ⌜ Testable (now part) (now rows) ⌝ }
-    ensures { λ r. ⌜ (r ≡ false → (j : ℕ) → j < 16 → startsAt (now (part .entry)) (now (operand1 .entry)) (now (rows .entry)) j ≡ false) ⌝ }
+    ensures { λ r. ⌜ (r ≡ false → (j : ℕ) → j < 16
+        → startsAt (now (part .entry)) (now (operand1 .entry)) (now (rows .entry)) j ≡ false) ⌝ }
 {
     let mut found = false;
     let mut j = 0;

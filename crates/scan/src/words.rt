@@ -25,7 +25,9 @@ fn stands(part: &[u16], letter: u16, rows: &[bool; 64], j: usize, i: usize) -> b
 // are joined with no branch, for speed (docs/PERFORMANCE.md).
 fn may_start(part: &[u16], operand1: &[u8; 16], rows: &[bool; 64]) -> bool
     requires { ⌜ length (now part) ≡ reach inWords ⌝ }
-    ensures { λ r. ⌜ (r ≡ false → (j : ℕ) → j < 8 → startsAt (now (part .entry)) (wordsOf (now (operand1 .entry))) (now (rows .entry)) j ≡ false) ⌝ }
+    ensures { λ r. ⌜ (r ≡ false → (j : ℕ) → j < 8
+        → startsAt (now (part .entry)) (wordsOf (now (operand1 .entry))) (now (rows .entry)) j
+        ≡ false) ⌝ }
 {
     let a0 = word(operand1[0], operand1[1]);
     let a1 = word(operand1[2], operand1[3]);

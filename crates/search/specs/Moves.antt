@@ -56,7 +56,11 @@ moved c position compares exhausted = cursorAt position compares exhausted
 
 -- the cursor c on by some elements, with these compares behind it
 abbrev pub steppedBy : Cursor → Bool → ℕ → ℕ → Stepped
-steppedBy c found by compares = record { found = found; cursor = moved c (c .position + by) compares false }
+steppedBy c found by compares =
+    record {
+      found = found;
+      cursor = moved c (c .position + by) compares false;
+    }
 
 -- what the needle's pieces from its element i on come to, where the needle is held against the text
 -- from p on
@@ -70,7 +74,8 @@ rested c (oneDiffers k) = steppedBy c false 1 (c .compares + 1 + k)
 
 -- how the later pieces come out, from how many agree and how many there are
 abbrev pub laterBy : ℕ → ℕ → Later
-laterBy agreeing pieces = cond (ltb agreeing pieces) (oneDiffers (agreeing + 1)) (noneDiffers agreeing)
+laterBy agreeing pieces =
+    cond (ltb agreeing pieces) (oneDiffers (agreeing + 1)) (noneDiffers agreeing)
 
 -- ---- how a walk goes on
 
@@ -101,4 +106,6 @@ ended c (nowhere k) = Absent (moved c (c .position) k true)
 
 -- the answer for an empty needle in a text of n elements
 abbrev pub emptyNeedle : ℕ → Cursor → Next
-emptyNeedle n c = ended c (cond (ltb n (c .position)) (nowhere (c .compares)) (matchAt (c .position) (c .compares)))
+emptyNeedle n c =
+    ended c
+    (cond (ltb n (c .position)) (nowhere (c .compares)) (matchAt (c .position) (c .compares)))

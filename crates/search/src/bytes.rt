@@ -14,7 +14,9 @@ impl Cursor {
     // position.
     fn rest_in_bytes(self, text: &[u8], needle: &[u8], l: usize) -> Stepped
         requires { ⌜ Room inBytes (now text) (now needle) l self ⌝ }
-        ensures { λ r. ⌜ r ≡ rested self (laterAt inBytes (now (text .entry)) (now (needle .entry)) (self .position) 16) ⌝ }
+        ensures { λ r. ⌜ r
+            ≡ rested self
+            (laterAt inBytes (now (text .entry)) (now (needle .entry)) (self .position) 16) ⌝ }
     {
         let m = needle.len();
         let from = (self.position as usize) + l;
@@ -51,7 +53,8 @@ impl Cursor {
     // The walk from the cursor's position, for a needle whose first piece has l bytes.
     fn walk_in_bytes(self, text: &[u8], needle: &[u8], l: usize) -> Next
         requires { ⌜ Walkable inBytes (now text) (now needle) l self ⌝ }
-        ensures { λ r. ⌜ r ≡ ended self (total inBytes (now (text .entry)) (now (needle .entry)) self) ⌝ }
+        ensures { λ r. ⌜ r
+            ≡ ended self (total inBytes (now (text .entry)) (now (needle .entry)) self) ⌝ }
     {
         let n = text.len();
         let m = needle.len();

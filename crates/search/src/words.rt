@@ -14,7 +14,9 @@ impl Cursor {
     // position.
     fn rest_in_words(self, text: &[u16], needle: &[u16], l: usize) -> Stepped
         requires { ⌜ Room inWords (now text) (now needle) l self ⌝ }
-        ensures { λ r. ⌜ r ≡ rested self (laterAt inWords (now (text .entry)) (now (needle .entry)) (self .position) 8) ⌝ }
+        ensures { λ r. ⌜ r
+            ≡ rested self
+            (laterAt inWords (now (text .entry)) (now (needle .entry)) (self .position) 8) ⌝ }
     {
         let m = needle.len();
         let from = (self.position as usize) + l;
@@ -51,7 +53,8 @@ impl Cursor {
     // The walk from the cursor's position, for a needle whose first piece has l words.
     fn walk_in_words(self, text: &[u16], needle: &[u16], l: usize) -> Next
         requires { ⌜ Walkable inWords (now text) (now needle) l self ⌝ }
-        ensures { λ r. ⌜ r ≡ ended self (total inWords (now (text .entry)) (now (needle .entry)) self) ⌝ }
+        ensures { λ r. ⌜ r
+            ≡ ended self (total inWords (now (text .entry)) (now (needle .entry)) self) ⌝ }
     {
         let n = text.len();
         let m = needle.len();

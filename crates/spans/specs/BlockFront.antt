@@ -29,4 +29,5 @@ block words i text = take (min (i + count words) (length text) - i) (drop i text
 -- the index that the unit gives for an operand of length l and that block
 unfoldable pub frontIndex : Bool → List ℕ → ℤ → List ℕ → ℕ → ℕ → ℕ
 frontIndex words o l text i control =
-    PCMPESTRI o l (operandOf words (block words i text)) (pos (length (block words i text))) control .index
+    PCMPESTRI o l (operandOf words (block words i text)) (pos (length (block words i text)))
+    control .index

@@ -20,7 +20,9 @@ inSet set x = anyBelow (length set) (λ i. eqb x (getD set i 0))
 -- element stands for
 abbrev pub inRanges : (ℕ → ℤ) → List ℕ → ℕ → Bool
 inRanges value bounds x =
-    anyBelow (length bounds / 2) (λ i. leZ (value (getD bounds (2 * i) 0)) (value x) && leZ (value x) (value (getD bounds (2 * i + 1) 0)))
+    anyBelow (length bounds / 2)
+    (λ i. leZ (value (getD bounds (2 * i) 0)) (value x)
+    && leZ (value x) (value (getD bounds (2 * i + 1) 0)))
 
 -- the first element that does not belong, or the text's end
 unfoldable pub spanLength : (ℕ → Bool) → List ℕ → ℕ
@@ -36,7 +38,8 @@ pub record LongestFront (belongs : ℕ → Bool) (text s : List ℕ) : Type 0 wh
   pub front : s ≡ take (length s) text
   pub all-belong : (j : ℕ) → j < length s → belongs (getD text j 0) ≡ true
   pub next-does-not : length s < length text → belongs (getD text (length s) 0) ≡ false
-  pub none-longer : (k : ℕ) → k ≤ length text → ((j : ℕ) → j < k → belongs (getD text j 0) ≡ true) → k ≤ length s
+  pub none-longer : (k : ℕ) → k ≤ length text → ((j : ℕ) → j < k → belongs (getD text j 0) ≡ true)
+      → k ≤ length s
 
 -- ---- the calls
 
@@ -45,12 +48,15 @@ unfoldable pub setRefusal : Bool → ℕ → ℕ → ℕ
 setRefusal words n m = cond (ltb longestText n) 2 (cond (ltb (count words) m) 4 0)
 
 unfoldable pub boundsRefusal : Bool → ℕ → ℕ → ℕ
-boundsRefusal words n m = cond (ltb longestText n) 2 (cond (ltb (count words) m) 4 (cond (eqb (m % 2) 1) 5 0))
+boundsRefusal words n m =
+    cond (ltb longestText n) 2 (cond (ltb (count words) m) 4 (cond (eqb (m % 2) 1) 5 0))
 
 -- what the calls give back: refused, the empty front
 unfoldable pub setSpan : Bool → List ℕ → List ℕ → List ℕ
-setSpan words text set = cond (eqb (setRefusal words (length text) (length set)) 0) (span (inSet set) text) []
+setSpan words text set =
+    cond (eqb (setRefusal words (length text) (length set)) 0) (span (inSet set) text) []
 
 unfoldable pub rangeSpan : Bool → Bool → List ℕ → List ℕ → List ℕ
 rangeSpan words signed text bounds =
-    cond (eqb (boundsRefusal words (length text) (length bounds)) 0) (span (inRanges (valueOf words signed) bounds) text) []
+    cond (eqb (boundsRefusal words (length text) (length bounds)) 0)
+    (span (inRanges (valueOf words signed) bounds) text) []

@@ -23,7 +23,8 @@ fn front(list: [u8; 16], l: i32, text: &[u8], i: usize, control: u8) -> usize
 // belong as a whole.
 fn length_of_span(text: &[u8], list: &[u8], ranges: bool, signed: bool) -> usize
     requires { ⌜ (length (now text) ≤ longestText) × (length (now list) ≤ 16) ⌝ }
-    ensures { λ r. ⌜ r ≡ spanLength (belongs inBytes ranges signed (now (list .entry))) (now (text .entry)) ⌝ }
+    ensures { λ r. ⌜ r
+        ≡ spanLength (belongs inBytes ranges signed (now (list .entry))) (now (text .entry)) ⌝ }
 {
     let operand = blocks::padded_bytes(list);
     let l = list.len() as i32;
@@ -41,7 +42,8 @@ fn length_of_span(text: &[u8], list: &[u8], ranges: bool, signed: bool) -> usize
 
 // The number that refuses `span` with these arguments, or 0.
 pub fn span_refusal(text: &[u8], set: &[u8]) -> u32
-    ensures { λ r. ⌜ r ≡ setRefusal inBytes (length (now (text .entry))) (length (now (set .entry))) ⌝ }
+    ensures { λ r. ⌜ r
+        ≡ setRefusal inBytes (length (now (text .entry))) (length (now (set .entry))) ⌝ }
 {
     crate::set_refusal(false, text.len(), set.len())
 }
@@ -49,7 +51,8 @@ pub fn span_refusal(text: &[u8], set: &[u8]) -> u32
 // The longest front of a text whose bytes are all in a set (document 01: the leading run). It is
 // that part of the text itself: it begins where the text begins.
 pub fn span<'a>(text: &'a [u8], set: &[u8]) -> &'a [u8]
-    ensures { λ r. ⌜ (r .ptr ≡ text .entry .ptr) × (now r ≡ setSpan inBytes (now (text .entry)) (now (set .entry))) ⌝ }
+    ensures { λ r. ⌜ (r .ptr ≡ text .entry .ptr)
+        × (now r ≡ setSpan inBytes (now (text .entry)) (now (set .entry))) ⌝ }
 {
     if span_refusal(text, set) > 0 {
         return &text[..0];
@@ -60,7 +63,8 @@ pub fn span<'a>(text: &'a [u8], set: &[u8]) -> &'a [u8]
 
 // The number that refuses `range_span` with these arguments, or 0.
 pub fn range_span_refusal(text: &[u8], bounds: &[u8], _signed: bool) -> u32
-    ensures { λ r. ⌜ r ≡ boundsRefusal inBytes (length (now (text .entry))) (length (now (bounds .entry))) ⌝ }
+    ensures { λ r. ⌜ r
+        ≡ boundsRefusal inBytes (length (now (text .entry))) (length (now (bounds .entry))) ⌝ }
 {
     crate::bounds_refusal(false, text.len(), bounds.len())
 }
@@ -68,7 +72,8 @@ pub fn range_span_refusal(text: &[u8], bounds: &[u8], _signed: bool) -> u32
 // The longest front of a text whose bytes each lie in one of some ranges, given as a list of low
 // and high bounds in pairs.
 pub fn range_span<'a>(text: &'a [u8], bounds: &[u8], signed: bool) -> &'a [u8]
-    ensures { λ r. ⌜ (r .ptr ≡ text .entry .ptr) × (now r ≡ rangeSpan inBytes signed (now (text .entry)) (now (bounds .entry))) ⌝ }
+    ensures { λ r. ⌜ (r .ptr ≡ text .entry .ptr)
+        × (now r ≡ rangeSpan inBytes signed (now (text .entry)) (now (bounds .entry))) ⌝ }
 {
     if range_span_refusal(text, bounds, signed) > 0 {
         return &text[..0];

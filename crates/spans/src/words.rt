@@ -23,7 +23,8 @@ fn front(list: [u8; 16], l: i32, text: &[u16], i: usize, control: u8) -> usize
 // belong as a whole.
 fn length_of_span(text: &[u16], list: &[u16], ranges: bool, signed: bool) -> usize
     requires { ⌜ (length (now text) ≤ longestText) × (length (now list) ≤ 8) ⌝ }
-    ensures { λ r. ⌜ r ≡ spanLength (belongs inWords ranges signed (now (list .entry))) (now (text .entry)) ⌝ }
+    ensures { λ r. ⌜ r
+        ≡ spanLength (belongs inWords ranges signed (now (list .entry))) (now (text .entry)) ⌝ }
 {
     let operand = blocks::padded_words(list);
     let l = list.len() as i32;
@@ -41,7 +42,8 @@ fn length_of_span(text: &[u16], list: &[u16], ranges: bool, signed: bool) -> usi
 
 // The number that refuses `span` with these arguments, or 0.
 pub fn span_refusal(text: &[u16], set: &[u16]) -> u32
-    ensures { λ r. ⌜ r ≡ setRefusal inWords (length (now (text .entry))) (length (now (set .entry))) ⌝ }
+    ensures { λ r. ⌜ r
+        ≡ setRefusal inWords (length (now (text .entry))) (length (now (set .entry))) ⌝ }
 {
     crate::set_refusal(true, text.len(), set.len())
 }
@@ -49,7 +51,8 @@ pub fn span_refusal(text: &[u16], set: &[u16]) -> u32
 // The longest front of a text whose words are all in a set (document 01: the leading run). It is
 // that part of the text itself: it begins where the text begins.
 pub fn span<'a>(text: &'a [u16], set: &[u16]) -> &'a [u16]
-    ensures { λ r. ⌜ (r .ptr ≡ text .entry .ptr) × (now r ≡ setSpan inWords (now (text .entry)) (now (set .entry))) ⌝ }
+    ensures { λ r. ⌜ (r .ptr ≡ text .entry .ptr)
+        × (now r ≡ setSpan inWords (now (text .entry)) (now (set .entry))) ⌝ }
 {
     if span_refusal(text, set) > 0 {
         return &text[..0];
@@ -60,7 +63,8 @@ pub fn span<'a>(text: &'a [u16], set: &[u16]) -> &'a [u16]
 
 // The number that refuses `range_span` with these arguments, or 0.
 pub fn range_span_refusal(text: &[u16], bounds: &[u16], _signed: bool) -> u32
-    ensures { λ r. ⌜ r ≡ boundsRefusal inWords (length (now (text .entry))) (length (now (bounds .entry))) ⌝ }
+    ensures { λ r. ⌜ r
+        ≡ boundsRefusal inWords (length (now (text .entry))) (length (now (bounds .entry))) ⌝ }
 {
     crate::bounds_refusal(true, text.len(), bounds.len())
 }
@@ -68,7 +72,8 @@ pub fn range_span_refusal(text: &[u16], bounds: &[u16], _signed: bool) -> u32
 // The longest front of a text whose words each lie in one of some ranges, given as a list of low
 // and high bounds in pairs.
 pub fn range_span<'a>(text: &'a [u16], bounds: &[u16], signed: bool) -> &'a [u16]
-    ensures { λ r. ⌜ (r .ptr ≡ text .entry .ptr) × (now r ≡ rangeSpan inWords signed (now (text .entry)) (now (bounds .entry))) ⌝ }
+    ensures { λ r. ⌜ (r .ptr ≡ text .entry .ptr)
+        × (now r ≡ rangeSpan inWords signed (now (text .entry)) (now (bounds .entry))) ⌝ }
 {
     if range_span_refusal(text, bounds, signed) > 0 {
         return &text[..0];

@@ -25,7 +25,11 @@ fn index_of(high: bool, b: usize, bits: u32) -> u32
 
 // The answer of an accepted call.
 pub fn answer(k: Control, t: Compared) -> IndexAnswer
-    ensures { λ r. ⌜ r ≡ record { refusal = 0; index = indexRead (k .high) (count (k .words)) (t .bits); flags = flagsRead (count (k .words)) t } ⌝ }
+    ensures { λ r. ⌜ r ≡ record {
+      refusal = 0;
+      index = indexRead (k .high) (count (k .words)) (t .bits);
+      flags = flagsRead (count (k .words)) t;
+    } ⌝ }
 {
     let b = operand::count_of(k.words);
     let index = index_of(k.high, b, t.bits);

@@ -74,7 +74,11 @@ fn mask_of(high: bool, words: bool, bits: u32) -> [u8; 16]
 
 // The answer of an accepted call.
 pub fn answer(k: Control, t: Compared) -> MaskAnswer
-    ensures { λ r. ⌜ r ≡ record { refusal = 0; mask = maskRead (k .high) (k .words) (t .bits); flags = flagsRead (count (k .words)) t } ⌝ }
+    ensures { λ r. ⌜ r ≡ record {
+      refusal = 0;
+      mask = maskRead (k .high) (k .words) (t .bits);
+      flags = flagsRead (count (k .words)) t;
+    } ⌝ }
 {
     let b = operand::count_of(k.words);
     let mask = mask_of(k.high, k.words, t.bits);

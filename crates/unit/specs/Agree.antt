@@ -39,5 +39,7 @@ pub record Agree (p q : Call) : Type 0 where
   pub control : controlByte p ≡ controlByte q
   pub length₁ : operandsOf p .length₁ ≡ operandsOf q .length₁
   pub length₂ : operandsOf p .length₂ ≡ operandsOf q .length₂
-  pub valid₁ : (i : ℕ) → i < operandsOf p .length₁ → getD (operandsOf p .elements₁) i 0 ≡ getD (operandsOf q .elements₁) i 0
-  pub valid₂ : (i : ℕ) → i < operandsOf p .length₂ → getD (operandsOf p .elements₂) i 0 ≡ getD (operandsOf q .elements₂) i 0
+  pub valid₁ : (i : ℕ) → i < operandsOf p .length₁
+      → getD (operandsOf p .elements₁) i 0 ≡ getD (operandsOf q .elements₁) i 0
+  pub valid₂ : (i : ℕ) → i < operandsOf p .length₂
+      → getD (operandsOf p .elements₂) i 0 ≡ getD (operandsOf q .elements₂) i 0

@@ -15,18 +15,22 @@ use Rattle.unit.specs.Output.{indexAnswer, maskAnswer, refusedIndex, ref
 -- the operands of an explicit call, x₁ and x₂ sixteen bytes each
 abbrev pub explicit : List ℕ → ℤ → List ℕ → ℤ → Control → Operands
 explicit x₁ l₁ x₂ l₂ k =
-    operands k (elements (k .words) x₁) (explicitLength (count (k .words)) l₁) (elements (k .words) x₂) (explicitLength (count (k .words)) l₂)
+    operands k (elements (k .words) x₁) (explicitLength (count (k .words)) l₁)
+    (elements (k .words) x₂) (explicitLength (count (k .words)) l₂)
 
 -- the operands of an implicit call
 abbrev pub implicit : List ℕ → List ℕ → Control → Operands
 implicit x₁ x₂ k =
-    operands k (elements (k .words) x₁) (implicitLength (elements (k .words) x₁)) (elements (k .words) x₂) (implicitLength (elements (k .words) x₂))
+    operands k (elements (k .words) x₁) (implicitLength (elements (k .words) x₁))
+    (elements (k .words) x₂) (implicitLength (elements (k .words) x₂))
 
 unfoldable pub PCMPESTRI : List ℕ → ℤ → List ℕ → ℤ → ℕ → IndexAnswer
-PCMPESTRI x₁ l₁ x₂ l₂ c = cond (ltb c 128) (indexAnswer (explicit x₁ l₁ x₂ l₂ (controlOf c))) refusedIndex
+PCMPESTRI x₁ l₁ x₂ l₂ c =
+    cond (ltb c 128) (indexAnswer (explicit x₁ l₁ x₂ l₂ (controlOf c))) refusedIndex
 
 unfoldable pub PCMPESTRM : List ℕ → ℤ → List ℕ → ℤ → ℕ → MaskAnswer
-PCMPESTRM x₁ l₁ x₂ l₂ c = cond (ltb c 128) (maskAnswer (explicit x₁ l₁ x₂ l₂ (controlOf c))) refusedMask
+PCMPESTRM x₁ l₁ x₂ l₂ c =
+    cond (ltb c 128) (maskAnswer (explicit x₁ l₁ x₂ l₂ (controlOf c))) refusedMask
 
 unfoldable pub PCMPISTRI : List ℕ → List ℕ → ℕ → IndexAnswer
 PCMPISTRI x₁ x₂ c = cond (ltb c 128) (indexAnswer (implicit x₁ x₂ (controlOf c))) refusedIndex

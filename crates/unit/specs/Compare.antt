@@ -25,7 +25,14 @@ pub record Operands : Type 0 where
   pub length₂ : ℕ
 
 abbrev pub operands : Control → List ℕ → ℕ → List ℕ → ℕ → Operands
-operands k x₁ l₁ x₂ l₂ = record { control = k; elements₁ = x₁; length₁ = l₁; elements₂ = x₂; length₂ = l₂ }
+operands k x₁ l₁ x₂ l₂ =
+    record {
+      control = k;
+      elements₁ = x₁;
+      length₁ = l₁;
+      elements₂ = x₂;
+      length₂ = l₂;
+    }
 
 -- The comparison of operand 2's element y with operand 1's element x, whose index is even or odd
 -- (table 5-2).
@@ -50,7 +57,8 @@ override EqualOrdered false v r = true
 unfoldable pub boolRes : Operands → ℕ → ℕ → Bool
 boolRes o j i =
     override (o .control .aggregation) (ltb i (o .length₁)) (ltb j (o .length₂))
-    (compared (o .control .aggregation) (valueOf (o .control .words) (o .control .signed)) (eqb (i % 2) 0) (getD (o .elements₂) j 0) (getD (o .elements₁) i 0))
+    (compared (o .control .aggregation) (valueOf (o .control .words) (o .control .signed))
+    (eqb (i % 2) 0) (getD (o .elements₂) j 0) (getD (o .elements₁) i 0))
 
 -- Bit j of IntRes1 from BoolRes, for operands of b elements (table 5-3).
 abbrev pub aggregated : Aggregation → ℕ → (ℕ → ℕ → Bool) → ℕ → Bool

@@ -26,4 +26,10 @@ polarityOf (suc (suc (suc n))) = MaskedNegative
 -- selection (tables 5-5 and 5-6).
 unfoldable pub controlOf : ℕ → Control
 controlOf c =
-    record { words = eqb (c % 2) 1; signed = eqb (c / 2 % 2) 1; aggregation = aggregationOf (c / 4 % 4); polarity = polarityOf (c / 16 % 4); high = eqb (c / 64 % 2) 1 }
+    record {
+      words = eqb (c % 2) 1;
+      signed = eqb (c / 2 % 2) 1;
+      aggregation = aggregationOf (c / 4 % 4);
+      polarity = polarityOf (c / 16 % 4);
+      high = eqb (c / 64 % 2) 1;
+    }

@@ -37,7 +37,8 @@ eachOf x₁ l₁ x₂ l₂ j = override EqualEach (ltb j l₁) (ltb j l₂) (eqb
 
 -- the overridden comparison of element j + i of x₂ with element i of x₁
 abbrev pub follows : List ℕ → ℕ → List ℕ → ℕ → ℕ → ℕ → Bool
-follows x₁ l₁ x₂ l₂ j i = override EqualOrdered (ltb i l₁) (ltb (j + i) l₂) (eqb (getD x₂ (j + i) 0) (getD x₁ i 0))
+follows x₁ l₁ x₂ l₂ j i =
+    override EqualOrdered (ltb i l₁) (ltb (j + i) l₂) (eqb (getD x₂ (j + i) 0) (getD x₁ i 0))
 
 -- equal ordered: x₁ stands in x₂ from j on, as far as the block of b goes
 abbrev pub orderedOf : ℕ → List ℕ → ℕ → List ℕ → ℕ → ℕ → Bool

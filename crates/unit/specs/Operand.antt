@@ -36,7 +36,8 @@ bitsOf words = cond words 16 8
 -- what an element stands for, in two's complement where signed
 abbrev pub valueOf : Bool → Bool → ℕ → ℤ
 valueOf words false x = pos x
-valueOf words true x = cond (ltb x (2 ^ (bitsOf words - 1))) (pos x) (pos x -ℤ pos (2 ^ bitsOf words))
+valueOf words true x =
+    cond (ltb x (2 ^ (bitsOf words - 1))) (pos x) (pos x -ℤ pos (2 ^ bitsOf words))
 
 -- The effective length (document 01: the length in force). Element i is valid when i is below it.
 

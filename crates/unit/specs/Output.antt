@@ -16,13 +16,15 @@ use Rattle.unit.specs.Compare.{Operands, intRes2}
 -- if no bit is set (table 5-5).
 unfoldable pub indexOf : Operands → ℕ
 indexOf o =
-    cond (o .control .high) (greatestBelow (count (o .control .words)) (intRes2 o) (count (o .control .words)))
+    cond (o .control .high)
+    (greatestBelow (count (o .control .words)) (intRes2 o) (count (o .control .words)))
     (leastBelow (count (o .control .words)) (intRes2 o))
 
 -- IntRes2 in the first two bytes, low byte first, zero extended (table 5-6, bit mask).
 unfoldable pub bitMask : Operands → List ℕ
 bitMask o =
-    (numberOf (count (o .control .words)) (intRes2 o) % 256) ∷ (numberOf (count (o .control .words)) (intRes2 o) / 256 % 256) ∷ replicate 14 0
+    (numberOf (count (o .control .words)) (intRes2 o) % 256)
+    ∷ (numberOf (count (o .control .words)) (intRes2 o) / 256 % 256) ∷ replicate 14 0
 
 -- Each bit of IntRes2 fills its element: byte i belongs to element i, or in words to element i / 2
 -- (table 5-6, byte/word mask).
@@ -36,7 +38,14 @@ maskOf o = cond (o .control .high) (elementMask o) (bitMask o)
 -- elements. OF: bit 0 of IntRes2. AF and PF: reset.
 unfoldable pub flagsOf : Operands → Flags
 flagsOf o =
-    record { carry = anyBelow (count (o .control .words)) (intRes2 o); zero = ltb (o .length₂) (count (o .control .words)); sign = ltb (o .length₁) (count (o .control .words)); overflow = intRes2 o 0; auxiliary = false; parity = false }
+    record {
+      carry = anyBelow (count (o .control .words)) (intRes2 o);
+      zero = ltb (o .length₂) (count (o .control .words));
+      sign = ltb (o .length₁) (count (o .control .words));
+      overflow = intRes2 o 0;
+      auxiliary = false;
+      parity = false;
+    }
 
 -- what an accepted call answers
 abbrev pub indexAnswer : Operands → IndexAnswer
@@ -47,7 +56,15 @@ maskAnswer o = record { refusal = 0; mask = maskOf o; flags = flagsOf o }
 
 -- what a refused call answers: number 1, and every other field zero or false
 abbrev pub noFlags : Flags
-noFlags = record { carry = false; zero = false; sign = false; overflow = false; auxiliary = false; parity = false }
+noFlags =
+    record {
+      carry = false;
+      zero = false;
+      sign = false;
+      overflow = false;
+      auxiliary = false;
+      parity = false;
+    }
 
 abbrev pub refusedIndex : IndexAnswer
 refusedIndex = record { refusal = 1; index = 0; flags = noFlags }

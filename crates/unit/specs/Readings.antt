@@ -14,20 +14,34 @@ use Rattle.unit.specs.Compare.{Operands, intRes2}
 
 -- IntRes2 as a number, with the effective lengths
 abbrev pub comparedOf : Operands → Compared
-comparedOf o = record { bits = numberOf (count (o .control .words)) (intRes2 o); length1 = o .length₁; length2 = o .length₂ }
+comparedOf o =
+    record {
+      bits = numberOf (count (o .control .words)) (intRes2 o);
+      length1 = o .length₁;
+      length2 = o .length₂;
+    }
 
 -- the flags, for operands of b elements
 abbrev pub flagsRead : ℕ → Compared → Flags
 flagsRead b t =
-    record { carry = not (eqb (t .bits) 0); zero = ltb (t .length2) b; sign = ltb (t .length1) b; overflow = eqb (t .bits % 2) 1; auxiliary = false; parity = false }
+    record {
+      carry = not (eqb (t .bits) 0);
+      zero = ltb (t .length2) b;
+      sign = ltb (t .length1) b;
+      overflow = eqb (t .bits % 2) 1;
+      auxiliary = false;
+      parity = false;
+    }
 
 -- the greatest set bit, or the least; b if none is set
 abbrev pub indexRead : Bool → ℕ → ℕ → ℕ
-indexRead high b n = cond high (cond (eqb n 0) b (31 - leadingZeros 32 n)) (cond (eqb n 0) b (trailingZeros 32 n))
+indexRead high b n =
+    cond high (cond (eqb n 0) b (31 - leadingZeros 32 n)) (cond (eqb n 0) b (trailingZeros 32 n))
 
 -- the byte/word mask, and the mask that the output selection asks for
 abbrev pub elementRead : Bool → ℕ → List ℕ
 elementRead words n = tabulate 16 (λ i. cond (eqb (n / 2 ^ (cond words (i / 2) i) % 2) 1) 255 0)
 
 abbrev pub maskRead : Bool → Bool → ℕ → List ℕ
-maskRead high words n = cond high (elementRead words n) ((n % 256) ∷ (n / 256 % 256) ∷ replicate 14 0)
+maskRead high words n =
+    cond high (elementRead words n) ((n % 256) ∷ (n / 256 % 256) ∷ replicate 14 0)

@@ -24,12 +24,14 @@ padded xs = take 16 (xs ++ replicate 16 0)
 -- IntRes1 of an explicit call as a number
 unfoldable pub firstResult : List ℕ → ℕ → List ℕ → ℕ → ℕ → ℕ
 firstResult x₁ l₁ x₂ l₂ c =
-    numberOf (count (controlOf c .words)) (intRes1 (explicit (padded x₁) (pos l₁) (padded x₂) (pos l₂) (controlOf c)))
+    numberOf (count (controlOf c .words))
+    (intRes1 (explicit (padded x₁) (pos l₁) (padded x₂) (pos l₂) (controlOf c)))
 
 -- IntRes2, read off the bit mask of an explicit call
 unfoldable pub result : List ℕ → ℕ → List ℕ → ℕ → ℕ → ℕ
 result x₁ l₁ x₂ l₂ c =
-    getD (PCMPESTRM (padded x₁) (pos l₁) (padded x₂) (pos l₂) c .mask) 0 0 + 256 * getD (PCMPESTRM (padded x₁) (pos l₁) (padded x₂) (pos l₂) c .mask) 1 0
+    getD (PCMPESTRM (padded x₁) (pos l₁) (padded x₂) (pos l₂) c .mask) 0 0
+    + 256 * getD (PCMPESTRM (padded x₁) (pos l₁) (padded x₂) (pos l₂) c .mask) 1 0
 
 unfoldable pub index : List ℕ → ℕ → List ℕ → ℕ → ℕ → ℕ
 index x₁ l₁ x₂ l₂ c = PCMPESTRI (padded x₁) (pos l₁) (padded x₂) (pos l₂) c .index
@@ -68,7 +70,8 @@ a-B = 97 ∷ 45 ∷ 66 ∷ []
 -- U1: first result, index, the four flags; and the index with bit 6 set
 unfoldable pub U1 : Bool
 U1 =
-    eqb (firstResult abc 3 text 16 0x0C) 0x4020 && eqb (result abc 3 text 16 0x0C) 0x4020 && eqb (index abc 3 text 16 0x0C) 5
+    eqb (firstResult abc 3 text 16 0x0C) 0x4020 && eqb (result abc 3 text 16 0x0C) 0x4020
+    && eqb (index abc 3 text 16 0x0C) 5
     && CF abc 3 text 16 0x0C
     && not (ZF abc 3 text 16 0x0C)
     && SF abc 3 text 16 0x0C
@@ -77,7 +80,9 @@ U1 =
 
 -- U2: the match that the text's end cuts off is not kept
 unfoldable pub U2 : Bool
-U2 = eqb (firstResult abc 3 text 15 0x0C) 0x0020 && eqb (result abc 3 text 15 0x0C) 0x0020 && ZF abc 3 text 15 0x0C
+U2 =
+    eqb (firstResult abc 3 text 15 0x0C) 0x0020 && eqb (result abc 3 text 15 0x0C) 0x0020
+    && ZF abc 3 text 15 0x0C
 
 -- U3: an empty needle stands everywhere
 unfoldable pub U3 : Bool
@@ -89,7 +94,9 @@ U4 = eqb (index [] 0 [] 0 0x00) 16 && not (CF [] 0 [] 0 0x00)
 
 -- U5: equal each, and the same negated
 unfoldable pub U5 : Bool
-U5 = eqb (result smith 5 smyth 5 0x08) 0xFFFB && eqb (result smith 5 smyth 5 0x18) 0x0004 && eqb (index smith 5 smyth 5 0x18) 2
+U5 =
+    eqb (result smith 5 smyth 5 0x08) 0xFFFB && eqb (result smith 5 smyth 5 0x18) 0x0004
+    && eqb (index smith 5 smyth 5 0x18) 2
 
 -- U6: negated where operand 2 is valid only
 unfoldable pub U6 : Bool
@@ -101,7 +108,9 @@ U7 = eqb (result az 2 a-B 3 0x04) 0x0004 && eqb (result az 1 a-B 3 0x04) 0
 
 -- U8: -1 to 1 signed, 255 to 1 unsigned
 unfoldable pub U8 : Bool
-U8 = eqb (result (0xFF ∷ 0x01 ∷ []) 2 (0x00 ∷ 0x80 ∷ []) 2 0x06) 0x0001 && eqb (result (0xFF ∷ 0x01 ∷ []) 2 (0x00 ∷ 0x80 ∷ []) 2 0x04) 0
+U8 =
+    eqb (result (0xFF ∷ 0x01 ∷ []) 2 (0x00 ∷ 0x80 ∷ []) 2 0x06) 0x0001
+    && eqb (result (0xFF ∷ 0x01 ∷ []) 2 (0x00 ∷ 0x80 ∷ []) 2 0x04) 0
 
 -- U9: eight bits and no more are negated in words
 unfoldable pub U9 : Bool
