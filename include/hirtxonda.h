@@ -120,9 +120,12 @@ uint32_t hx_pcmpestri_19(const uint8_t operand1[16], size_t length1, const uint8
  *
  *     hx_cursor cursor;
  *     uint64_t position;
+ *     uint32_t status;
  *     hx_cursor_fresh(&cursor);
- *     while (hx_next_in_bytes(&cursor, text, n, needle, m, &position) == HX_MATCH)
+ *     while ((status = hx_next_in_bytes(&cursor, text, n, needle, m, &position)) == HX_MATCH)
  *         printf("%" PRIu64 "\n", position);
+ *     if (status != HX_ABSENT)
+ *         printf("refused with number %" PRIu32 "\n", status);
  *
  * A list of calls over one text and needle gives every position where the needle stands, the least
  * first, none skipped or repeated, then HX_ABSENT once, then HX_EXHAUSTED_REFUSED. An empty needle
