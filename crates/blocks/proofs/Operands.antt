@@ -10,6 +10,7 @@ use lib.Seq.{ext-getD, getD-set-same, getD-set-other}
 use native.Mathlib.Omega.{arith}
 use native.Mathlib.Numerals.{add-one}
 use borrow.Author.Tests.{lt-ltb, le-ltb, eq-eqb, ne-eqb, eqb-true, eqb-false}
+use Rattle.unit.specs.Operand.{inBytes, inWords}
 use Rattle.bits.specs.Bits.{tabulate}
 use Rattle.bits.proofs.Below.{by-test, by-order}
 use Rattle.bits.proofs.Lists.{length-tabulate, getD-tabulate, tabulate-same}
@@ -59,17 +60,17 @@ module _ (f : ℕ → ℕ) where
       ∙ ap (λ (n : ℕ). tabulate 16 (upTo f n)) (add-one k)
 
 -- past the part's end
-pub past-bytes : (x : List ℕ) (j : ℕ) → length x ≤ j → operandByte false x j ≡ 0
+pub past-bytes : (x : List ℕ) (j : ℕ) → length x ≤ j → operandByte inBytes x j ≡ 0
 past-bytes x j h = List·getD-eq-default x 0 h
 
 -- zeros over which a part in bytes is written are its operand
-pub filled-zeros : (x a : List ℕ) → a ≡ stores (operandByte false x) (min (length x) 16) (replicate 16 0) → a ≡ operandOf false x
+pub filled-zeros : (x a : List ℕ) → a ≡ stores (operandByte inBytes x) (min (length x) 16) (replicate 16 0) → a ≡ operandOf inBytes x
 unfolding operandOf
 filled-zeros x a e =
     let n = min (length x) 16 in
-    all-stored (operandByte false x) a n (e ∙ stores-zeros (operandByte false x) n (omega arith)) (λ j h g. past-bytes x j (omega arith))
+    all-stored (operandByte inBytes x) a n (e ∙ stores-zeros (operandByte inBytes x) n (omega arith)) (λ j h g. past-bytes x j (omega arith))
 
-pub past-words : (x : List ℕ) (j : ℕ) → 2 * length x ≤ j → operandByte true x j ≡ 0
+pub past-words : (x : List ℕ) (j : ℕ) → 2 * length x ≤ j → operandByte inWords x j ≡ 0
 past-words x j h =
     rw (List·getD-eq-default x 0 (half h)) (either (eqb (j % 2) 0))
   where
@@ -81,13 +82,13 @@ past-words x j h =
     either false = refl
 
 -- the two bytes of word i
-pub low-byte : (x : List ℕ) (i : ℕ) → getD x i 0 % 256 ≡ operandByte true x (2 * i)
+pub low-byte : (x : List ℕ) (i : ℕ) → getD x i 0 % 256 ≡ operandByte inWords x (2 * i)
 low-byte x i =
     let even : 2 * i % 2 ≡ 0 = omega arith in
     let half : 2 * i / 2 ≡ i = omega arith in
     rw (eq-eqb (2 * i % 2) 0 even, half)
 
-pub high-byte : (x : List ℕ) (i : ℕ) → getD x i 0 / 256 ≡ operandByte true x (2 * i + 1)
+pub high-byte : (x : List ℕ) (i : ℕ) → getD x i 0 / 256 ≡ operandByte inWords x (2 * i + 1)
 high-byte x i =
     let half : (2 * i + 1) / 2 ≡ i = omega arith in
     rw (ne-eqb ((2 * i + 1) % 2) 0 (λ e. omega arith), half)

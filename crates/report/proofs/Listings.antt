@@ -13,6 +13,7 @@ use native.Mathlib.Nat.{mul-le-mul}
 use native.Mathlib.Omega.{arith}
 use native.Mathlib.Numerals.{add-one}
 use borrow.Author.Tests.{lt-ltb}
+use Rattle.unit.specs.Operand.{inBytes}
 use Rattle.bits.proofs.Below.{by-test}
 use Rattle.decimal.proofs.Pages.{tail, line-put, part-put}
 use Rattle.search.specs.Positions.{positions}
@@ -27,7 +28,7 @@ use Rattle.report.specs.Writers.{Found, Put, refusedReport}
 use Rattle.report.proofs.Inputs.{feed-within, length-needle, too-long, no-feed, long-needle, no-refusal, refusal-small}
 use Rattle.report.proofs.Lines.{length-number, length-totals, length-lines}
 
-bound-few : (n m : ℕ) → n < longestInput → m ≤ longestNeedle → bound false n m ≤ 4194304
+bound-few : (n m : ℕ) → n < longestInput → m ≤ longestNeedle → bound inBytes n m ≤ 4194304
 bound-few n m h g =
     let most : n - m + 1 ≤ 65536 = omega arith in
     let pieces : (m + 16 - 1) / 16 ≤ 64 = omega arith in

@@ -9,6 +9,7 @@ use lib.Seq.{take-length, getD-take, length-take-le}
 use native.Mathlib.Decide.{decLt}
 use native.Mathlib.Omega.{arith}
 use native.Mathlib.Numerals.{add-one}
+use Rattle.unit.specs.Operand.{inBytes}
 use Rattle.search.specs.declared.Cursor.{Cursor}
 use Rattle.search.specs.declared.Next.{Next}
 use Rattle.search.specs.declared.Next.the-variants.{Match, Absent}
@@ -26,7 +27,7 @@ use Rattle.decimal.proofs.Pages.{line-put}
 
 -- the cursor after k calls
 abbrev pub cursorBy : List ℕ → List ℕ → ℕ → Cursor
-cursorBy text needle k = cursorAfter false text needle k freshCursor
+cursorBy text needle k = cursorAfter inBytes text needle k freshCursor
 
 -- the calls so far: k matches, and where no more follow, the one that said absent
 abbrev pub Called : List ℕ → List ℕ → Bool → ℕ → Cursor → Type 0
@@ -50,13 +51,13 @@ no-lines before = refl
 module _ (text needle : List ℕ) (small : length text < longestInput) (short : length needle ≤ longestNeedle) where
   -- the answer of the call after k matches
   next-match : (k : ℕ) (c : Cursor) → k < length (positions text needle) → c ≡ cursorBy text needle k
-      → nextMatch false text needle c ≡ Match (getD (positions text needle) k 0) (cursorBy text needle (suc k))
-  next-match k c h e = ap (nextMatch false text needle) e ∙ finds false text needle (omega arith) short k h
+      → nextMatch inBytes text needle c ≡ Match (getD (positions text needle) k 0) (cursorBy text needle (suc k))
+  next-match k c h e = ap (nextMatch inBytes text needle) e ∙ finds false text needle (omega arith) short k h
 
-  next-absent : (k : ℕ) (c : Cursor) → k ≡ length (positions text needle) → c ≡ cursorBy text needle k → nextMatch false text needle c ≡ Absent (cursorBy text needle (suc k))
-  next-absent k c h e = ap (nextMatch false text needle) e ∙ ends false text needle (omega arith) short k h
+  next-absent : (k : ℕ) (c : Cursor) → k ≡ length (positions text needle) → c ≡ cursorBy text needle k → nextMatch inBytes text needle c ≡ Absent (cursorBy text needle (suc k))
+  next-absent k c h e = ap (nextMatch inBytes text needle) e ∙ ends false text needle (omega arith) short k h
 
-  pub next-small : (k : ℕ) (c : Cursor) (next : Next) → k ≤ length (positions text needle) → c ≡ cursorBy text needle k → next ≡ nextMatch false text needle c → Small next
+  pub next-small : (k : ℕ) (c : Cursor) (next : Next) → k ≤ length (positions text needle) → c ≡ cursorBy text needle k → next ≡ nextMatch inBytes text needle c → Small next
   next-small k c next h e n =
       by-cases (decLt k (length (positions text needle)))
       (λ l. subst Small (sym (n ∙ next-match k c l e)) (omega (arith, position-within text needle k l)))
@@ -86,7 +87,7 @@ module _ (text needle : List ℕ) (small : length text < longestInput) (short : 
 
     pub turned : (next : Next) (page new : List ℕ) (after : Tally) → Called text needle true (t .matches) (t .cursor)
         → HasLines text needle before page (t .matches)
-        → next ≡ nextMatch false text needle (t .cursor)
+        → next ≡ nextMatch inBytes text needle (t .cursor)
         → new ≡ withMatch next (t .matches * 9) page
         → after ≡ afterNext t next
         → Turned after new
@@ -97,7 +98,7 @@ module _ (text needle : List ℕ) (small : length text < longestInput) (short : 
         (λ g. let e : t .matches ≡ length (positions text needle) = omega arith in
         by-answer (Absent (cursorBy text needle (suc (t .matches)))) (next-absent (t .matches) (t .cursor) e (called .1)) ((e, refl), has, omega arith))
       where
-        by-answer : (x : Next) → nextMatch false text needle (t .cursor) ≡ x → Turned (afterNext t x) (withMatch x (t .matches * 9) page) → Turned after new
+        by-answer : (x : Next) → nextMatch inBytes text needle (t .cursor) ≡ x → Turned (afterNext t x) (withMatch x (t .matches * 9) page) → Turned after new
         by-answer x e h =
             subst (λ (a : Tally). Turned a new) (sym (told ∙ ap (afterNext t) (answer ∙ e)))
             (subst (Turned (afterNext t x)) (sym (stored ∙ ap (λ (y : Next). withMatch y (t .matches * 9) page) (answer ∙ e))) h)
@@ -110,6 +111,6 @@ module _ (text needle : List ℕ) (small : length text < longestInput) (short : 
         matches = called .0;
         compares =
             ap (λ (c : Cursor). c .compares) (called .1) ∙ calls-find-all false text needle (suc (t .matches)) (omega arith) short .counts
-            ∙ ap (λ (k : ℕ). walkCount false text needle (suc k)) (called .0);
+            ∙ ap (λ (k : ℕ). walkCount inBytes text needle (suc k)) (called .0);
         page = has ∙ ap (λ (k : ℕ). matchLines (take k ps) ++ drop (k * 9) before) (called .0) ∙ rw (take-length ps);
       }

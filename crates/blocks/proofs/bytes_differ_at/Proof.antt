@@ -1,10 +1,10 @@
 -- `blocks::bytes_differ_at` meets its contract: either way the operands are those of the two parts,
 -- and the lengths theirs. Assumes nothing.
 use mathlib.Core.Path.{ap, _∙_}
-use mathlib.Core.Bool.{false}
 use lib.IntN.{pos}
 use native.Mathlib.Omega.{arith}
 use borrow.Author.Needs.{needs}
+use Rattle.unit.specs.Operand.{inBytes}
 use Rattle.blocks.specs.Blocks.{eachNegated}
 use Rattle.blocks.proofs.Compares.{compare-called}
 use Rattle.blocks.proofs.bytes_differ_at.Statement.{statement}
@@ -35,7 +35,7 @@ returns-3 : tie.Need-returns-3
 returns-3 c =
     let a = c .before .before .before .before .before .before .before .args in
     c .pcmpestri-18 .ensures
-    ∙ compare-called false eachNegated (a .x .now) (a .y .now) _ _ _ _ (c .before .before .whole-bytes .ensures) (ap pos (omega arith)) (c .before .whole-bytes2 .ensures) (ap pos (omega arith))
+    ∙ compare-called inBytes eachNegated (a .x .now) (a .y .now) _ _ _ _ (c .before .before .whole-bytes .ensures) (ap pos (omega arith)) (c .before .whole-bytes2 .ensures) (ap pos (omega arith))
 
 pub bytes-differ-at-spec : {M : Type 1} → statement M
 bytes-differ-at-spec =

@@ -2,7 +2,7 @@
 -- the others zero. Assumes nothing.
 use Prim.Native.Nat.{ℕ, _+_, _*_, _-_, _≤_}
 use mathlib.Core.Path.{_≡_, refl, ap, _∙_}
-use mathlib.Core.Bool.{true}
+use Rattle.unit.specs.Operand.{inWords}
 use Rattle.bits.specs.Bits.{tabulate}
 use Rattle.blocks.specs.Blocks.{operandByte, operandOf}
 use Rattle.blocks.proofs.Operands.{upTo, stored, all-stored, past-words, low-byte, high-byte}
@@ -12,7 +12,7 @@ use Rattle.blocks.proofs.padded_words.Statement.{statement}
 use Rattle.blocks.proofs.padded_words.Tie as tie
 
 abbrev Inv-loop : tie.InvT-loop
-Inv-loop part n bytes₀ i₀ bytes i = (i ≤ n) × (bytes ≡ tabulate 16 (upTo (operandByte true part) (2 * i)))
+Inv-loop part n bytes₀ i₀ bytes i = (i ≤ n) × (bytes ≡ tabulate 16 (upTo (operandByte inWords part) (2 * i)))
 
 abbrev μ-loop : tie.MeasureT-loop
 μ-loop part n bytes₀ i₀ bytes i = n - i
@@ -65,7 +65,7 @@ loop-again c =
     let o = c .before .before in
     let l = o .before .before .before in
     let x = l .before .before .before .args .part .now in
-    let f = operandByte true x in
+    let f = operandByte inWords x in
     let i = l .loop .i in
     let first = stored f (l .loop .bytes) (2 * i) (o .low .result) (omega arith) (l .loop .inv .1) (o .low .ensures ∙ low-byte x i) in
     let both = stored f _ (2 * i + 1) (c .high .result) (omega arith) first (c .high .ensures ∙ high-byte x i) in
@@ -77,7 +77,7 @@ unfolding operandOf
 returns c =
     let l = c .before in
     let x = l .before .before .before .args .part .now in
-    all-stored (operandByte true x) (l .loop .bytes) (2 * l .loop .i) (l .loop .inv .1) (λ j h g. past-words x j (omega arith))
+    all-stored (operandByte inWords x) (l .loop .bytes) (2 * l .loop .i) (l .loop .inv .1) (λ j h g. past-words x j (omega arith))
 
 pub padded-words-spec : {M : Type 1} → statement M
 padded-words-spec =

@@ -1,8 +1,8 @@
 -- `blocks::short_bytes_differ_at` meets its contract: the operands are those of the two parts, and
 -- the lengths theirs. Assumes nothing.
 use mathlib.Core.Path.{refl, _∙_}
-use mathlib.Core.Bool.{false}
 use borrow.Author.Needs.{needs}
+use Rattle.unit.specs.Operand.{inBytes}
 use Rattle.blocks.specs.Blocks.{eachNegated}
 use Rattle.blocks.proofs.Compares.{compare-called}
 use Rattle.blocks.proofs.short_bytes_differ_at.Statement.{statement}
@@ -21,7 +21,7 @@ returns : tie.Need-returns
 returns c =
     let a = c .before .before .before .before .before .args in
     c .pcmpestri-18 .ensures
-    ∙ compare-called false eachNegated (a .x .now) (a .y .now) _ _ _ _ (c .before .before .padded-bytes .ensures) refl (c .before .padded-bytes2 .ensures) refl
+    ∙ compare-called inBytes eachNegated (a .x .now) (a .y .now) _ _ _ _ (c .before .before .padded-bytes .ensures) refl (c .before .padded-bytes2 .ensures) refl
 
 pub short-bytes-differ-at-spec : {M : Type 1} → statement M
 short-bytes-differ-at-spec =

@@ -1,8 +1,8 @@
 -- `blocks::short_words_differ_at` meets its contract: the operands are those of the two parts, and
 -- the lengths theirs. Assumes nothing.
 use mathlib.Core.Path.{refl, _∙_}
-use mathlib.Core.Bool.{true}
 use borrow.Author.Needs.{needs}
+use Rattle.unit.specs.Operand.{inWords}
 use Rattle.blocks.specs.Blocks.{eachNegated}
 use Rattle.blocks.proofs.Compares.{compare-called}
 use Rattle.blocks.proofs.short_words_differ_at.Statement.{statement}
@@ -21,7 +21,7 @@ returns : tie.Need-returns
 returns c =
     let a = c .before .before .before .before .before .args in
     c .pcmpestri-19 .ensures
-    ∙ compare-called true eachNegated (a .x .now) (a .y .now) _ _ _ _ (c .before .before .padded-words .ensures) refl (c .before .padded-words2 .ensures) refl
+    ∙ compare-called inWords eachNegated (a .x .now) (a .y .now) _ _ _ _ (c .before .before .padded-words .ensures) refl (c .before .padded-words2 .ensures) refl
 
 pub short-words-differ-at-spec : {M : Type 1} → statement M
 short-words-differ-at-spec =

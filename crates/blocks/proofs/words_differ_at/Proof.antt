@@ -1,10 +1,10 @@
 -- `blocks::words_differ_at` meets its contract: either way the operands are those of the two parts,
 -- and the lengths theirs. Assumes nothing.
 use mathlib.Core.Path.{ap, _∙_}
-use mathlib.Core.Bool.{true}
 use lib.IntN.{pos}
 use native.Mathlib.Omega.{arith}
 use borrow.Author.Needs.{needs}
+use Rattle.unit.specs.Operand.{inWords}
 use Rattle.blocks.specs.Blocks.{eachNegated}
 use Rattle.blocks.proofs.Compares.{compare-called}
 use Rattle.blocks.proofs.words_differ_at.Statement.{statement}
@@ -35,7 +35,7 @@ returns-3 : tie.Need-returns-3
 returns-3 c =
     let a = c .before .before .before .before .before .before .before .args in
     c .pcmpestri-19 .ensures
-    ∙ compare-called true eachNegated (a .x .now) (a .y .now) _ _ _ _ (c .before .before .whole-words .ensures) (ap pos (omega arith)) (c .before .whole-words2 .ensures) (ap pos (omega arith))
+    ∙ compare-called inWords eachNegated (a .x .now) (a .y .now) _ _ _ _ (c .before .before .whole-words .ensures) (ap pos (omega arith)) (c .before .whole-words2 .ensures) (ap pos (omega arith))
 
 pub words-differ-at-spec : {M : Type 1} → statement M
 words-differ-at-spec =

@@ -1,7 +1,8 @@
 -- What is handed on is the order of the two texts. Assumes nothing.
 use borrow.Author.Needs.{needs}
 use mathlib.Core.Path.{ap, subst, _∙_}
-use mathlib.Core.Bool.{Bool, true}
+use mathlib.Core.Bool.{Bool}
+use Rattle.unit.specs.Operand.{inWords}
 use Rattle.orders.specs.declared.OrderAnswer.{OrderAnswer}
 use Rattle.orders.specs.Orders.{orderAnswer}
 use Rattle.capi.specs.Crossing.{OrderGiven}
@@ -25,7 +26,7 @@ give-order-requires c κs = search needs
 returns : tie.Need-returns
 returns c =
     let a = c .before .before .before .before .before .before .args in
-    let told = c .before .before .compare .ensures ∙ ap (λ (t : Bool). orderAnswer true t (a .first .now) (a .second .now)) (c .before .before .before .truth .ensures) in
+    let told = c .before .before .compare .ensures ∙ ap (λ (t : Bool). orderAnswer inWords t (a .first .now) (a .second .now)) (c .before .before .before .truth .ensures) in
     subst (λ (o : OrderAnswer). OrderGiven o (a .order .now) (c .give-order .result) (c .give-order .last .1 .0)) told (c .give-order .ensures)
 
 pub hx-compare-in-words-spec : {M : Type 1} → statement M

@@ -2,7 +2,8 @@
 -- it. Assumes nothing.
 use borrow.Author.Needs.{needs}
 use mathlib.Core.Path.{ap, subst, _∙_}
-use mathlib.Core.Bool.{Bool, true}
+use mathlib.Core.Bool.{Bool}
+use Rattle.unit.specs.Operand.{inWords}
 use Rattle.orders.specs.declared.OrderAnswer.{OrderAnswer}
 use Rattle.orders.specs.Orders.{orderAnswer}
 use Rattle.capi.specs.Crossing.{LesserGiven, truth}
@@ -27,9 +28,9 @@ give-lesser-requires c κs = search needs
 returns : tie.Need-returns
 returns c =
     let a = c .before .before .before .before .before .before .args in
-    let told = c .before .before .compare .ensures ∙ ap (λ (t : Bool). orderAnswer true t (a .first .now) (a .second .now)) (c .before .before .before .truth .ensures) in
+    let told = c .before .before .compare .ensures ∙ ap (λ (t : Bool). orderAnswer inWords t (a .first .now) (a .second .now)) (c .before .before .before .truth .ensures) in
     let given = subst (λ (o : OrderAnswer). LesserGiven o (a .which .now) (c .give-lesser .result) (c .give-lesser .last .1 .0)) told (c .give-lesser .ensures) in
-    which-is-second true (truth (a .signed)) (a .first .now) (a .second .now) (a .which .now) (c .give-lesser .result) (c .give-lesser .last .1 .0) given
+    which-is-second inWords (truth (a .signed)) (a .first .now) (a .second .now) (a .which .now) (c .give-lesser .result) (c .give-lesser .last .1 .0) given
 
 pub hx-lesser-in-words-spec : {M : Type 1} → statement M
 hx-lesser-in-words-spec =

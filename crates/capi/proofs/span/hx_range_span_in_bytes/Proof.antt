@@ -1,8 +1,9 @@
 -- The companion call gives the number, and the length is that of the part. Assumes nothing.
 use borrow.Author.Needs.{needs}
 use mathlib.Core.Path.{ap, _∙_}
-use mathlib.Core.Bool.{Bool, false}
+use mathlib.Core.Bool.{Bool}
 use lib.ListN.{length}
+use Rattle.unit.specs.Operand.{inBytes}
 use Rattle.spans.specs.Spans.{boundsRefusal, rangeSpan}
 use Rattle.capi.specs.Crossing.{truth}
 use Rattle.capi.proofs.Crossings.{number-as}
@@ -35,8 +36,8 @@ returns c =
     let a = c .before .before .before .before .before .before .before .before .args in
     let number = c .before .before .range-span-refusal in
     let part = c .before .before .before .before .range-span in
-    let signed = ap (λ (t : Bool). rangeSpan false t (a .text .now) (a .bounds .now)) (c .before .before .before .before .before .truth .ensures) in
-    number-as (number .result) (boundsRefusal false (length (a .text .now)) (length (a .bounds .now))) (length (part .result .now)) (length (rangeSpan false (truth (a .signed)) (a .text .now) (a .bounds .now))) (a .span .now) (c .give-number .result) (c .give-number .last .1 .1 .0)
+    let signed = ap (λ (t : Bool). rangeSpan inBytes t (a .text .now) (a .bounds .now)) (c .before .before .before .before .before .truth .ensures) in
+    number-as (number .result) (boundsRefusal inBytes (length (a .text .now)) (length (a .bounds .now))) (length (part .result .now)) (length (rangeSpan inBytes (truth (a .signed)) (a .text .now) (a .bounds .now))) (a .span .now) (c .give-number .result) (c .give-number .last .1 .1 .0)
     (number .ensures) (ap length (part .ensures .1 ∙ signed)) (c .give-number .ensures)
 
 pub hx-range-span-in-bytes-spec : {M : Type 1} → statement M

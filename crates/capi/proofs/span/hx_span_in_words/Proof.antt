@@ -1,8 +1,8 @@
 -- The companion call gives the number, and the length is that of the part. Assumes nothing.
 use borrow.Author.Needs.{needs}
 use mathlib.Core.Path.{ap}
-use mathlib.Core.Bool.{true}
 use lib.ListN.{length}
+use Rattle.unit.specs.Operand.{inWords}
 use Rattle.spans.specs.Spans.{setRefusal, setSpan}
 use Rattle.capi.proofs.Crossings.{number-as}
 use Rattle.capi.proofs.span.hx_span_in_words.Statement.{statement}
@@ -27,7 +27,7 @@ returns c =
     let a = c .before .before .before .before .before .before .args in
     let number = c .before .before .span-refusal in
     let part = c .before .before .before .span in
-    number-as (number .result) (setRefusal true (length (a .text .now)) (length (a .set .now))) (length (part .result .now)) (length (setSpan true (a .text .now) (a .set .now))) (a .span .now) (c .give-number .result) (c .give-number .last .1 .1 .0)
+    number-as (number .result) (setRefusal inWords (length (a .text .now)) (length (a .set .now))) (length (part .result .now)) (length (setSpan inWords (a .text .now) (a .set .now))) (a .span .now) (c .give-number .result) (c .give-number .last .1 .1 .0)
     (number .ensures) (ap length (part .ensures .1)) (c .give-number .ensures)
 
 pub hx-span-in-words-spec : {M : Type 1} → statement M

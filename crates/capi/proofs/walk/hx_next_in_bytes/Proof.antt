@@ -2,7 +2,7 @@
 -- Assumes nothing.
 use borrow.Author.Needs.{needs}
 use mathlib.Core.Path.{ap, subst, _∙_}
-use mathlib.Core.Bool.{false}
+use Rattle.unit.specs.Operand.{inBytes}
 use Rattle.search.specs.declared.Next.{Next}
 use Rattle.search.specs.Cursors.{nextMatch}
 use Rattle.capi.specs.Crossing.{NextGiven}
@@ -26,7 +26,7 @@ give-next-requires c κs = search needs
 returns : tie.Need-returns
 returns c =
     let a = c .before .before .before .before .before .before .before .before .args in
-    let told = c .before .before .before .next-in-bytes .ensures ∙ ap (nextMatch false (a .text .now) (a .needle .now)) (c .before .before .before .before .cursor-of .ensures) in
+    let told = c .before .before .before .next-in-bytes .ensures ∙ ap (nextMatch inBytes (a .text .now) (a .needle .now)) (c .before .before .before .before .cursor-of .ensures) in
     subst (λ (n : Next). NextGiven n (a .cursor .now) (a .position .now) (c .give-next .result) (c .give-next .last .1 .0) (c .give-next .last .1 .1 .0)) told (c .give-next .ensures)
 
 pub hx-next-in-bytes-spec : {M : Type 1} → statement M

@@ -2,10 +2,10 @@
 -- lie in one of the first i ranges. Assumes nothing.
 use Prim.Native.Nat.{_≤_, _-_}
 use mathlib.Core.Path.{_≡_, refl}
-use mathlib.Core.Bool.{cond, false}
+use mathlib.Core.Bool.{cond}
 use lib.ListN.{getD}
 use Rattle.bits.specs.Bits.{tabulate}
-use Rattle.unit.specs.Operand.{valueOf}
+use Rattle.unit.specs.Operand.{valueOf, inBytes}
 use Rattle.unit.specs.Modes.{inRange}
 use Rattle.unit.proofs.Modes.{row-start, row-more, ranges-made}
 use borrow.Author.Needs.{needs}
@@ -14,13 +14,13 @@ use Rattle.modes.proofs.bytes.ranges.Statement.{statement}
 use Rattle.modes.proofs.bytes.ranges.Tie as tie
 
 abbrev Inv-loop : tie.InvT-loop
-Inv-loop signed n x2 l2 x1 row₀ i₀ row i = (i ≤ n) × (row ≡ tabulate 16 (λ j. cond (inRange (valueOf false signed) x1 i (getD x2 j 0)) 255 0))
+Inv-loop signed n x2 l2 x1 row₀ i₀ row i = (i ≤ n) × (row ≡ tabulate 16 (λ j. cond (inRange (valueOf inBytes signed) x1 i (getD x2 j 0)) 255 0))
 
 abbrev μ-loop : tie.MeasureT-loop
 μ-loop signed n x2 l2 x1 row₀ i₀ row i = n - i
 
 loop-holds : tie.Need-loop-holds Inv-loop μ-loop
-loop-holds c = (omega arith, row-start 16 255 (valueOf false (c .args .signed)) (c .args .t2) (c .args .x2) _ refl)
+loop-holds c = (omega arith, row-start 16 255 (valueOf inBytes (c .args .signed)) (c .args .t2) (c .args .x2) _ refl)
 
 mul-at : tie.Need-mul-at Inv-loop μ-loop
 mul-at c = search needs
@@ -47,7 +47,7 @@ loop-again : tie.Need-loop-again Inv-loop μ-loop
 loop-again c =
     let l = c .before .before in
     let a = l .before .args in
-    (omega arith, row-more 16 255 (valueOf false (a .signed)) (a .t2) (a .x2) (l .loop .i) (l .loop .row) (c .within .result) (l .loop .inv .1) (c .within .ensures))
+    (omega arith, row-more 16 255 (valueOf inBytes (a .signed)) (a .t2) (a .x2) (l .loop .i) (l .loop .row) (c .within .result) (l .loop .inv .1) (c .within .ensures))
 
 same-bytes-requires : tie.Need-same-bytes-requires Inv-loop μ-loop
 same-bytes-requires c κs = search needs
@@ -60,7 +60,7 @@ returns c =
     let l = c .before .before .before .before in
     let s = l .before in
     let e : l .loop .i ≡ s .args .n = omega arith in
-    ranges-made 16 255 (valueOf false (s .args .signed)) (s .args .t2) (s .args .x2) (s .args .n) (s .args .l2) (c .before .same-bytes .result) (c .first .result) (l .loop .row) (omega arith) (omega arith) (s .pre .1) (rw e at (l .loop .inv .1)) (c .before .same-bytes .ensures) (c .first .ensures)
+    ranges-made 16 255 (valueOf inBytes (s .args .signed)) (s .args .t2) (s .args .x2) (s .args .n) (s .args .l2) (c .before .same-bytes .result) (c .first .result) (l .loop .row) (omega arith) (omega arith) (s .pre .1) (rw e at (l .loop .inv .1)) (c .before .same-bytes .ensures) (c .first .ensures)
 
 pub ranges-spec : {M : Type 1} → statement M
 ranges-spec =

@@ -2,13 +2,13 @@
 -- filled. Assumes nothing.
 use Prim.Native.Nat.{_≤_, _-_}
 use mathlib.Core.Path.{_≡_, refl, ap}
-use mathlib.Core.Bool.{cond, false}
+use mathlib.Core.Bool.{cond}
 use lib.ListN.{length, take, getD}
 use lib.Bits.{bitOr}
 use mir.Syntax.{w16}
 use mir.ValLaws.{toZ-ofZ}
 use Rattle.bits.specs.Bits.{tabulate}
-use Rattle.unit.specs.Operand.{valueOf}
+use Rattle.unit.specs.Operand.{valueOf, inBytes}
 use Rattle.unit.specs.Modes.{between}
 use Rattle.bits.proofs.Lists.{fill, filled}
 use borrow.Author.Needs.{needs}
@@ -17,7 +17,7 @@ use Rattle.modes.proofs.bytes.within.Statement.{statement}
 use Rattle.modes.proofs.bytes.within.Tie as tie
 
 abbrev Inv-loop : tie.InvT-loop
-Inv-loop signed low high x row least most a₀ j₀ a j = (j ≤ 16) × (length a ≡ 16) × (take j a ≡ tabulate j (λ n. bitOr (getD row n 0) (cond (between (valueOf false signed) low high (getD x n 0)) 255 0)))
+Inv-loop signed low high x row least most a₀ j₀ a j = (j ≤ 16) × (length a ≡ 16) × (take j a ≡ tabulate j (λ n. bitOr (getD row n 0) (cond (between (valueOf inBytes signed) low high (getD x n 0)) 255 0)))
 
 abbrev μ-loop : tie.MeasureT-loop
 μ-loop signed low high x row least most a₀ j₀ a j = 16 - j
@@ -60,16 +60,16 @@ loop-again c =
     let v = l .before .before .value in
     let w = l .before .value2 in
     let y = c .before .value3 in
-    let m : c .mark .result ≡ cond (between (valueOf false (s .args .signed)) (s .args .low) (s .args .high) (getD (s .args .t2) (l .loop .j) 0)) 255 0 =
+    let m : c .mark .result ≡ cond (between (valueOf inBytes (s .args .signed)) (s .args .low) (s .args .high) (getD (s .args .t2) (l .loop .j) 0)) 255 0 =
     rw (toZ-ofZ w16 (v .result) (record { sfits = v .ok }), toZ-ofZ w16 (w .result) (record { sfits = w .ok }), toZ-ofZ w16 (y .result) (record { sfits = y .ok }), v .ensures, w .ensures, y .ensures) at (c .mark .ensures) in
-    (omega arith, search needs, fill (l .loop .a) (l .loop .j) (λ n. bitOr (getD (s .args .t5) n 0) (cond (between (valueOf false (s .args .signed)) (s .args .low) (s .args .high) (getD (s .args .t2) n 0)) 255 0)) _ (omega arith) (l .loop .inv .2) (ap (bitOr (getD (s .args .t5) (l .loop .j) 0)) m))
+    (omega arith, search needs, fill (l .loop .a) (l .loop .j) (λ n. bitOr (getD (s .args .t5) n 0) (cond (between (valueOf inBytes (s .args .signed)) (s .args .low) (s .args .high) (getD (s .args .t2) n 0)) 255 0)) _ (omega arith) (l .loop .inv .2) (ap (bitOr (getD (s .args .t5) (l .loop .j) 0)) m))
 
 returns : tie.Need-returns Inv-loop μ-loop
 returns c =
     let l = c .before in
     let s = l .before .before .before in
     let e : l .loop .j ≡ 16 = omega arith in
-    filled (l .loop .a) 16 (λ n. bitOr (getD (s .args .t5) n 0) (cond (between (valueOf false (s .args .signed)) (s .args .low) (s .args .high) (getD (s .args .t2) n 0)) 255 0)) (l .loop .inv .1) (rw e at (l .loop .inv .2))
+    filled (l .loop .a) 16 (λ n. bitOr (getD (s .args .t5) n 0) (cond (between (valueOf inBytes (s .args .signed)) (s .args .low) (s .args .high) (getD (s .args .t2) n 0)) 255 0)) (l .loop .inv .1) (rw e at (l .loop .inv .2))
 
 pub within-spec : {M : Type 1} → statement M
 within-spec =

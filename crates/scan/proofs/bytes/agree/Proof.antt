@@ -7,6 +7,7 @@ use native.Mathlib.Omega.{arith}
 use borrow.Author.Needs.{needs}
 use borrow.Author.Tests.{lt-ltb, le-ltb}
 use lib.Dec.{ltb}
+use Rattle.unit.specs.Operand.{inBytes}
 use Rattle.scan.specs.Scan.{piecesDiffer}
 use Rattle.scan.proofs.Pieces.{Agreed, agreed-all, agreed-ended, agreed-more, count-even, count-odd, piece-differs, whole-differs}
 use Rattle.scan.proofs.bytes.agree.Statement.{statement}
@@ -63,7 +64,7 @@ returns-2 : tie.Need-returns-2 Inv-loop μ-loop
 returns-2 c =
     let o = c .before .before in
     let a = at-entry o .args in
-    agreed-all false (a .x .now) (a .y .now) (o .loop .i) (o .loop .inv .1) (count-even false _ (o .loop .i) (c .if2 .taken ∙ o .before .min .ensures))
+    agreed-all false (a .x .now) (a .y .now) (o .loop .i) (o .loop .inv .1) (count-even inBytes _ (o .loop .i) (c .if2 .taken ∙ o .before .min .ensures))
 
 returns-3 : tie.Need-returns-3 Inv-loop μ-loop
 returns-3 c =
@@ -78,7 +79,7 @@ returns-4 c =
     let o = at-end k in
     let a = at-entry o .args in
     let i = o .loop .i in
-    agreed-all false (a .x .now) (a .y .now) (i + 1) (agreed-more false (a .x .now) (a .y .now) i (o .loop .inv .1) (last k ∙ le-ltb (k .bytes-differ-at .result) 16 (c .if3 .left))) (count-odd false _ i (omega arith) (omega arith))
+    agreed-all false (a .x .now) (a .y .now) (i + 1) (agreed-more false (a .x .now) (a .y .now) i (o .loop .inv .1) (last k ∙ le-ltb (k .bytes-differ-at .result) 16 (c .if3 .left))) (count-odd inBytes _ i (omega arith) (omega arith))
 
 pub agree-spec : {M : Type 1} → statement M
 agree-spec =

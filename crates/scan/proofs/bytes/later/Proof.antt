@@ -5,6 +5,7 @@ use mathlib.Core.Path.{_≡_, refl, sym, _∙_}
 use mathlib.Core.Bool.{false}
 use native.Mathlib.Omega.{arith}
 use borrow.Author.Needs.{needs}
+use Rattle.unit.specs.Operand.{inBytes}
 use Rattle.scan.specs.Scan.{indexIn}
 use Rattle.scan.specs.Letters.{Passed}
 use Rattle.scan.proofs.Scans.{passed-more, scan-ended, scan-over, compared-at}
@@ -12,7 +13,7 @@ use Rattle.scan.proofs.bytes.later.Statement.{statement}
 use Rattle.scan.proofs.bytes.later.Tie as tie
 
 abbrev Inv-loop : tie.InvT-loop
-Inv-loop operand1 l part whole i₀ i = Passed false operand1 l part i
+Inv-loop operand1 l part whole i₀ i = Passed inBytes operand1 l part i
 
 abbrev μ-loop : tie.MeasureT-loop
 μ-loop operand1 l part whole i₀ i = whole - i
@@ -30,7 +31,7 @@ compared : (c : tie.After-pcmpestri-0c Inv-loop μ-loop)
 compared c =
     let a = at-entry (at-loop c) .args in
     let i = at-loop c .loop .i in
-    compared-at false (a .operand1 .now) (a .l) (a .part .now) i (i * 16) (i * 16 + 16) (c .pcmpestri-0c .result) _ (c .pcmpestri-0c .ensures) (c .before .whole-bytes .ensures) refl refl
+    compared-at inBytes (a .operand1 .now) (a .l) (a .part .now) i (i * 16) (i * 16 + 16) (c .pcmpestri-0c .result) _ (c .pcmpestri-0c .ensures) (c .before .whole-bytes .ensures) refl refl
 
 returns : tie.Need-returns Inv-loop μ-loop
 returns c =

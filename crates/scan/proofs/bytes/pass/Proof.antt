@@ -5,6 +5,7 @@ use mathlib.Core.Path.{_≡_, refl, _∙_}
 use mathlib.Core.Bool.{false}
 use native.Mathlib.Omega.{arith}
 use borrow.Author.Needs.{needs}
+use Rattle.unit.specs.Operand.{inBytes}
 use Rattle.blocks.proofs.Compares.{part-size}
 use Rattle.scan.specs.Letters.{Reached}
 use Rattle.scan.proofs.Scans.{block-passed, first-asked}
@@ -12,7 +13,7 @@ use Rattle.scan.proofs.bytes.pass.Statement.{statement}
 use Rattle.scan.proofs.bytes.pass.Tie as tie
 
 abbrev Inv-loop : tie.InvT-loop
-Inv-loop operand1 l part from rows n tested i₀ i = Reached false operand1 l part from i
+Inv-loop operand1 l part from rows n tested i₀ i = Reached inBytes operand1 l part from i
 
 abbrev μ-loop : tie.MeasureT-loop
 μ-loop operand1 l part from rows n tested i₀ i = tested - i

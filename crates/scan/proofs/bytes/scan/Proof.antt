@@ -5,6 +5,7 @@ use mathlib.Core.Bool.{false}
 use lib.ListN.{length-take}
 use native.Mathlib.Omega.{arith}
 use borrow.Author.Needs.{needs}
+use Rattle.unit.specs.Operand.{inBytes}
 use Rattle.scan.specs.Scan.{indexIn}
 use Rattle.scan.proofs.Scans.{passed-start, passed-more, scan-ended, scan-over, compared-at, some-letters}
 use Rattle.scan.proofs.bytes.scan.Statement.{statement}
@@ -19,7 +20,7 @@ compared : (c : tie.After-pcmpestri-0c)
     c .pcmpestri-0c .result ≡ indexIn false (a .t1) (a .l) (a .part .now) 0
 compared c =
     let a = at-entry c .args in
-    compared-at false (a .t1) (a .l) (a .part .now) 0 0 16 (c .pcmpestri-0c .result) _ (c .pcmpestri-0c .ensures) (c .before .whole-bytes .ensures) refl refl
+    compared-at inBytes (a .t1) (a .l) (a .part .now) 0 0 16 (c .pcmpestri-0c .result) _ (c .pcmpestri-0c .ensures) (c .before .whole-bytes .ensures) refl refl
 
 returns : tie.Need-returns
 returns c =
@@ -36,7 +37,7 @@ later-requires c κs =
     let a = at-entry (c .before .before) .args in
     let none = sym (compared (c .before .before)) ∙ c .before .if2 .left in
     record {
-      some = some-letters false (a .t1) (a .l) (a .part .now) 0 none;
+      some = some-letters inBytes (a .t1) (a .l) (a .part .now) 0 none;
       passed = passed-more false (a .t1) (a .l) (a .part .now) 0 (passed-start false (a .t1) (a .l) (a .part .now)) (omega arith) none;
     }
 

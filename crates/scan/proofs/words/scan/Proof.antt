@@ -5,6 +5,7 @@ use mathlib.Core.Path.{_≡_, refl, sym, _∙_}
 use mathlib.Core.Bool.{true}
 use native.Mathlib.Omega.{arith}
 use borrow.Author.Needs.{needs}
+use Rattle.unit.specs.Operand.{inWords}
 use Rattle.scan.specs.Scan.{indexIn}
 use Rattle.scan.specs.Letters.{Passed}
 use Rattle.scan.proofs.Scans.{passed-start, passed-more, scan-ended, scan-over, compared-at}
@@ -12,7 +13,7 @@ use Rattle.scan.proofs.words.scan.Statement.{statement}
 use Rattle.scan.proofs.words.scan.Tie as tie
 
 abbrev Inv-loop : tie.InvT-loop
-Inv-loop l part operand1 whole i₀ i = Passed true operand1 l part i
+Inv-loop l part operand1 whole i₀ i = Passed inWords operand1 l part i
 
 abbrev μ-loop : tie.MeasureT-loop
 μ-loop l part operand1 whole i₀ i = whole - i
@@ -34,7 +35,7 @@ compared : (c : tie.After-pcmpestri-0d Inv-loop μ-loop)
 compared c =
     let a = at-entry (at-loop (at-pass c)) .args in
     let q = at-pass c .pass .result in
-    compared-at true (a .t1) (a .l) (a .part .now) q (q * 8) (q * 8 + 8) (c .pcmpestri-0d .result) _ (c .pcmpestri-0d .ensures) (c .before .whole-words .ensures) refl refl
+    compared-at inWords (a .t1) (a .l) (a .part .now) q (q * 8) (q * 8 + 8) (c .pcmpestri-0d .result) _ (c .pcmpestri-0d .ensures) (c .before .whole-words .ensures) refl refl
 
 returns : tie.Need-returns Inv-loop μ-loop
 returns c =

@@ -6,6 +6,7 @@ use mathlib.Core.Bool.{false}
 use lib.ListN.{length, length-take}
 use native.Mathlib.Omega.{arith}
 use borrow.Author.Needs.{needs}
+use Rattle.unit.specs.Operand.{inBytes}
 use Rattle.blocks.proofs.Operands.{filled-zeros}
 use Rattle.search.specs.Moves.{ended, total}
 use Rattle.search.proofs.Refusals.{Accepted, accepted-is}
@@ -14,7 +15,7 @@ use Rattle.search.proofs.Cursor.walk_in_bytes.Statement.{statement}
 use Rattle.search.proofs.Cursor.walk_in_bytes.Tie as tie
 
 abbrev Inv-loop : tie.InvT-loop
-Inv-loop self text needle l n m first at₀ at = (at .position ≤ length text + 1) × (total false text needle at ≡ total false text needle self)
+Inv-loop self text needle l n m first at₀ at = (at .position ≤ length text + 1) × (total inBytes text needle at ≡ total inBytes text needle self)
 
 abbrev μ-loop : tie.MeasureT-loop
 μ-loop self text needle l n m first at₀ at = length text + 2 - at .position
@@ -42,7 +43,7 @@ step-in-bytes-requires c κs =
     let k = limits s in record {
       searchable = record { small = k .text; short = k .needle; some = omega arith };
       room = omega arith;
-      few = total-few false (a .text .now) (a .needle .now) (a .self) (o .loop .at) (o .loop .inv .1) (k .text) (k .needle) (k .compares);
+      few = total-few inBytes (a .text .now) (a .needle .now) (a .self) (o .loop .at) (o .loop .inv .1) (k .text) (k .needle) (k .compares);
       size = s .pre .size;
       operand = filled-zeros _ _ (o .before .fill-bytes .ensures);
     }

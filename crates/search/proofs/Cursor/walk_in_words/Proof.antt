@@ -6,6 +6,7 @@ use mathlib.Core.Bool.{true}
 use lib.ListN.{length, length-take}
 use native.Mathlib.Omega.{arith}
 use borrow.Author.Needs.{needs}
+use Rattle.unit.specs.Operand.{inWords}
 use Rattle.search.specs.Moves.{ended, total}
 use Rattle.search.proofs.Refusals.{Accepted, accepted-is}
 use Rattle.search.proofs.Turns.{total-empty, total-few, total-past, turn-found, turn-on}
@@ -13,7 +14,7 @@ use Rattle.search.proofs.Cursor.walk_in_words.Statement.{statement}
 use Rattle.search.proofs.Cursor.walk_in_words.Tie as tie
 
 abbrev Inv-loop : tie.InvT-loop
-Inv-loop self text needle l n m first at₀ at = (at .position ≤ length text + 1) × (total true text needle at ≡ total true text needle self)
+Inv-loop self text needle l n m first at₀ at = (at .position ≤ length text + 1) × (total inWords text needle at ≡ total inWords text needle self)
 
 abbrev μ-loop : tie.MeasureT-loop
 μ-loop self text needle l n m first at₀ at = length text + 2 - at .position
@@ -41,7 +42,7 @@ step-in-words-requires c κs =
     let k = limits s in record {
       searchable = record { small = k .text; short = k .needle; some = omega arith };
       room = omega arith;
-      few = total-few true (a .text .now) (a .needle .now) (a .self) (o .loop .at) (o .loop .inv .1) (k .text) (k .needle) (k .compares);
+      few = total-few inWords (a .text .now) (a .needle .now) (a .self) (o .loop .at) (o .loop .inv .1) (k .text) (k .needle) (k .compares);
       size = s .pre .size;
       operand = o .before .padded-words .ensures;
     }

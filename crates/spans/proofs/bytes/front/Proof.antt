@@ -1,10 +1,10 @@
 -- `spans::bytes::front` meets its contract: the operand is the block's, and its length fits 32
 -- bits. Assumes nothing.
 use Prim.Native.Nat.{_-_}
-use mathlib.Core.Bool.{false}
 use mir.Syntax.{w32}
 use mir.ValLaws.{toZ-pos, toZ-ofZ}
 use native.Mathlib.Omega.{arith}
+use Rattle.unit.specs.Operand.{inBytes}
 use Rattle.spans.proofs.Indexes.{front-called}
 use Rattle.spans.proofs.bytes.front.Statement.{statement}
 use Rattle.spans.proofs.bytes.front.Tie as tie
@@ -47,7 +47,7 @@ returns c =
     let e = at-end .min in
     let s = at-end .before .before in
     let a = s .args in
-    front-called false (a .text .now) (a .list) (o .result) (a .i) (e .result) (a .control) (a .l) _ _ (u .result)
+    front-called inBytes (a .text .now) (a .list) (o .result) (a .i) (e .result) (a .control) (a .l) _ _ (u .result)
     (e .ensures) (omega arith) (toZ-ofZ w32 (a .l) (s .fits .l)) (o .ensures) (toZ-pos w32 (e .result - a .i) (omega (arith, e .ensures))) (u .ensures)
 
 pub front-spec : {M : Type 1} → statement M

@@ -5,6 +5,7 @@ use mathlib.Core.Bool.{true, false}
 use lib.ListN.{length, length-take}
 use native.Mathlib.Omega.{arith}
 use borrow.Author.Needs.{needs}
+use Rattle.unit.specs.Operand.{inBytes}
 use Rattle.spans.specs.BlockFront.{belongs}
 use Rattle.spans.proofs.Calls.{range-refused, range-given, bounds-accepted}
 use Rattle.spans.proofs.Fronts.{within}
@@ -26,12 +27,12 @@ returns c =
 length-of-span-requires : tie.Need-length-of-span-requires
 length-of-span-requires c κs =
     let a = c .before .before .before .before .args in
-    bounds-accepted false (length (a .text .now)) (length (a .bounds .now)) (omega (arith, c .before .range-span-refusal .ensures))
+    bounds-accepted inBytes (length (a .text .now)) (length (a .bounds .now)) (omega (arith, c .before .range-span-refusal .ensures))
 
 slice-aggregate-result-2 : tie.Need-slice-aggregate-result-2
 slice-aggregate-result-2 c =
     let a = c .before .before .before .before .before .before .args in
-    rw length-take (omega (arith, c .before .length-of-span .ensures, within (belongs false true (a .signed) (a .bounds .now)) (a .text .now)))
+    rw length-take (omega (arith, c .before .length-of-span .ensures, within (belongs inBytes true (a .signed) (a .bounds .now)) (a .text .now)))
 
 returns-2 : tie.Need-returns-2
 returns-2 c =

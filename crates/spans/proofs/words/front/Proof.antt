@@ -1,10 +1,10 @@
 -- `spans::words::front` meets its contract: the operand is the block's, and its length fits 32
 -- bits. Assumes nothing.
 use Prim.Native.Nat.{_-_}
-use mathlib.Core.Bool.{true}
 use mir.Syntax.{w32}
 use mir.ValLaws.{toZ-pos, toZ-ofZ}
 use native.Mathlib.Omega.{arith}
+use Rattle.unit.specs.Operand.{inWords}
 use Rattle.spans.proofs.Indexes.{front-called}
 use Rattle.spans.proofs.words.front.Statement.{statement}
 use Rattle.spans.proofs.words.front.Tie as tie
@@ -50,7 +50,7 @@ returns c =
     let e = at-end .min in
     let s = at-end .before .before in
     let a = s .args in
-    front-called true (a .text .now) (a .list) (o .result) (a .i) (e .result) (a .control) (a .l) _ _ (u .result)
+    front-called inWords (a .text .now) (a .list) (o .result) (a .i) (e .result) (a .control) (a .l) _ _ (u .result)
     (e .ensures) (omega arith) (toZ-ofZ w32 (a .l) (s .fits .l)) (o .ensures) (toZ-pos w32 (e .result - a .i) (omega (arith, e .ensures))) (u .ensures)
 
 pub front-spec : {M : Type 1} → statement M

@@ -5,6 +5,7 @@ use mathlib.Core.Bool.{true, false}
 use lib.ListN.{length, length-take}
 use native.Mathlib.Omega.{arith}
 use borrow.Author.Needs.{needs}
+use Rattle.unit.specs.Operand.{inWords}
 use Rattle.spans.specs.BlockFront.{belongs}
 use Rattle.spans.proofs.Calls.{set-refused, set-given, set-accepted}
 use Rattle.spans.proofs.Fronts.{within}
@@ -26,12 +27,12 @@ returns c =
 length-of-span-requires : tie.Need-length-of-span-requires
 length-of-span-requires c κs =
     let a = c .before .before .before .before .args in
-    set-accepted true (length (a .text .now)) (length (a .set .now)) (omega (arith, c .before .span-refusal .ensures))
+    set-accepted inWords (length (a .text .now)) (length (a .set .now)) (omega (arith, c .before .span-refusal .ensures))
 
 slice-aggregate-result-2 : tie.Need-slice-aggregate-result-2
 slice-aggregate-result-2 c =
     let a = c .before .before .before .before .before .before .args in
-    rw length-take (omega (arith, c .before .length-of-span .ensures, within (belongs true false false (a .set .now)) (a .text .now)))
+    rw length-take (omega (arith, c .before .length-of-span .ensures, within (belongs inWords false false (a .set .now)) (a .text .now)))
 
 returns-2 : tie.Need-returns-2
 returns-2 c =
