@@ -1,8 +1,8 @@
 // The program `hits`: it reads a needle, a line feed and a text from standard input, and prints
 // where the needle stands in the text (document 01, "The program `hits`").
 //
-// All that it prints is defined and proved in the crate `report`. This program reads, calls it, and
-// writes.
+// The bytes that are printed are defined in the crate `report` and proved there. This program
+// reads, calls it, and hands the bytes to the system.
 use libc::STDIN_FILENO;
 use libc::STDOUT_FILENO;
 ghost use Rattle.hits.specs.Reads.{Within};
