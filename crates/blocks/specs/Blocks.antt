@@ -1,5 +1,4 @@
--- A text and its parts, as the unit takes them. `words` is the width, `inBytes` or
--- `inWords`.
+-- A text and its parts, as the unit takes them. `words` is the width, `inBytes` or `inWords`.
 use Prim.Native.Nat.{ℕ, zero, suc, _+_, _/_, _%_}
 use mathlib.Core.Bool.{Bool, cond}
 use mathlib.Core.List.{List}

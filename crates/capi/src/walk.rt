@@ -51,12 +51,12 @@ fn give_next(next: Next, cursor: &mut [u64; 3], position: &mut u64) -> u32
     }
 }
 
-// The cursor of a first call.
+// The cursor of a first call: the numbers of `Cursor::fresh`.
 #[no_mangle]
 pub extern "C" fn hx_cursor_fresh(cursor: &mut [u64; 3])
     ensures { λ _. ⌜ now (cursor .exit) ≡ numbersOf freshCursor ⌝ }
 {
-    *cursor = numbers_of(Cursor::fresh());
+    *cursor = [0, 0, 0];
 }
 
 // The next match of a needle of bytes.

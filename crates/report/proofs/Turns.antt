@@ -52,10 +52,10 @@ module _ (text needle : List ℕ) (small : length text < longestInput) (short : 
   -- the answer of the call after k matches
   next-match : (k : ℕ) (c : Cursor) → k < length (positions text needle) → c ≡ cursorBy text needle k
       → nextMatch inBytes text needle c ≡ Match (getD (positions text needle) k 0) (cursorBy text needle (suc k))
-  next-match k c h e = ap (nextMatch inBytes text needle) e ∙ finds false text needle (omega arith) short k h
+  next-match k c h e = ap (nextMatch inBytes text needle) e ∙ finds inBytes text needle (omega arith) short k h
 
   next-absent : (k : ℕ) (c : Cursor) → k ≡ length (positions text needle) → c ≡ cursorBy text needle k → nextMatch inBytes text needle c ≡ Absent (cursorBy text needle (suc k))
-  next-absent k c h e = ap (nextMatch inBytes text needle) e ∙ ends false text needle (omega arith) short k h
+  next-absent k c h e = ap (nextMatch inBytes text needle) e ∙ ends inBytes text needle (omega arith) short k h
 
   pub next-small : (k : ℕ) (c : Cursor) (next : Next) → k ≤ length (positions text needle) → c ≡ cursorBy text needle k → next ≡ nextMatch inBytes text needle c → Small next
   next-small k c next h e n =
@@ -110,7 +110,7 @@ module _ (text needle : List ℕ) (small : length text < longestInput) (short : 
       record {
         matches = called .0;
         compares =
-            ap (λ (c : Cursor). c .compares) (called .1) ∙ calls-find-all false text needle (suc (t .matches)) (omega arith) short .counts
+            ap (λ (c : Cursor). c .compares) (called .1) ∙ calls-find-all inBytes text needle (suc (t .matches)) (omega arith) short .counts
             ∙ ap (λ (k : ℕ). walkCount inBytes text needle (suc k)) (called .0);
         page = has ∙ ap (λ (k : ℕ). matchLines (take k ps) ++ drop (k * 9) before) (called .0) ∙ rw (take-length ps);
       }

@@ -258,7 +258,7 @@ module _ (f : Control → Operands) (c : ℕ) (k : Control) (t : Compared) (kept
 -- ---- the index at a fixed control: 0Ch and 0Dh, equal ordered; 18h and 19h, equal each negated
 
 module _ (y₁ : List ℕ) (z₁ : ℤ) (y₂ : List ℕ) (z₂ : ℤ) (l₁ l₂ n : ℕ) where
-  pub ordered-index : (w : Bool) → l₁ ≡ explicitLength (count w) z₁ → l₂ ≡ explicitLength (count w) z₂ → n ≡ numberOf (count w) (orderedOf (count w) (elements w y₁) l₁ (elements w y₂) l₂) → cond (eqb n 0) (count w) (trailingZeros 32 n) ≡ PCMPESTRI y₁ z₁ y₂ z₂ (cond w 13 12) .index
+  pub ordered-index : (w : Bool) → l₁ ≡ explicitLength (count w) z₁ → l₂ ≡ explicitLength (count w) z₂ → n ≡ numberOf (count w) (orderedOf (count w) (elements w y₁) l₁ (elements w y₂) l₂) → cond (eqb n 0) (count w) (trailingZeros 32 n) ≡ PCMPESTRI y₁ z₁ y₂ z₂ (cond w 0x0D 0x0C) .index
   unfolding PCMPESTRI controlOf indexOf intRes2 intRes1 boolRes
   ordered-index true e₁ e₂ d =
       least-read 8 n (orderedOf 8 (wordsOf y₁) l₁ (wordsOf y₂) l₂) (omega arith) d
@@ -268,7 +268,7 @@ module _ (y₁ : List ℕ) (z₁ : ℤ) (y₂ : List ℕ) (z₂ : ℤ) (l₁ l�
       ∙ (λ t. leastBelow 16 (orderedOf 16 y₁ (e₁ t) y₂ (e₂ t)))
 
   -- the index, from the least place where the operands differ
-  pub differ-index : (w : Bool) → l₁ ≡ explicitLength (count w) z₁ → l₂ ≡ explicitLength (count w) z₂ → n ≡ leastBelow (count w) (λ j. not (eachOf (elements w y₁) l₁ (elements w y₂) l₂ j)) → n ≡ PCMPESTRI y₁ z₁ y₂ z₂ (cond w 25 24) .index
+  pub differ-index : (w : Bool) → l₁ ≡ explicitLength (count w) z₁ → l₂ ≡ explicitLength (count w) z₂ → n ≡ leastBelow (count w) (λ j. not (eachOf (elements w y₁) l₁ (elements w y₂) l₂ j)) → n ≡ PCMPESTRI y₁ z₁ y₂ z₂ (cond w 0x19 0x18) .index
   unfolding PCMPESTRI controlOf indexOf intRes2 intRes1 boolRes
   differ-index true e₁ e₂ d = d ∙ (λ t. leastBelow 8 (λ j. not (eachOf (wordsOf y₁) (e₁ t) (wordsOf y₂) (e₂ t) j)))
   differ-index false e₁ e₂ d = d ∙ (λ t. leastBelow 16 (λ j. not (eachOf y₁ (e₁ t) y₂ (e₂ t) j)))

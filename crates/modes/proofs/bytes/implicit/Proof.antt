@@ -1,7 +1,7 @@
 -- `modes::bytes::implicit` meets its contract: it hands on the elements and effective lengths that
 -- the definition names. Assumes nothing.
 use mathlib.Core.Path.{refl}
-use mathlib.Core.Bool.{false}
+use Rattle.unit.specs.Operand.{inBytes}
 use Rattle.bits.proofs.Below.{least-within}
 use Rattle.unit.proofs.Unit.{implicit-is}
 use borrow.Author.Needs.{needs}
@@ -24,7 +24,7 @@ returns c =
     let a = s .args in
     let f = c .before .before .before .before .before .implicit-length in
     let g = c .before .before .before .implicit-length2 in
-    implicit-is (a .k) false (a .t1) (a .t2) (a .t1) (f .result) (a .t2) (g .result) (c .compared .result) (s .pre) refl (search needs) (f .ensures) refl (search needs) (g .ensures) (c .compared .ensures)
+    implicit-is (a .k) inBytes (a .t1) (a .t2) (a .t1) (f .result) (a .t2) (g .result) (c .compared .result) (s .pre) refl (search needs) (f .ensures) refl (search needs) (g .ensures) (c .compared .ensures)
 
 pub implicit-spec : {M : Type 1} → statement M
 implicit-spec =

@@ -1,9 +1,9 @@
 -- `modes::bytes::index_0c` meets its contract: at that control IntRes2 is the number of the mode,
 -- and the index its least bit. Assumes nothing.
 use mathlib.Core.Path.{_∙_}
-use mathlib.Core.Bool.{false}
 use lib.IntN.{pos}
 use native.Mathlib.Omega.{arith}
+use Rattle.unit.specs.Operand.{inBytes}
 use Rattle.unit.proofs.Unit.{cut-explicit, ordered-index}
 use borrow.Author.Needs.{needs}
 use Rattle.modes.proofs.bytes.index_0c.Statement.{statement}
@@ -33,7 +33,7 @@ returns c =
     let l₁ = cut-explicit 16 (s .args .length1) (f .result) (f .ensures) in
     let l₂ = cut-explicit 16 (s .args .length2) (g .result) (g .ensures) in
     c .least .ensures
-    ∙ ordered-index (s .args .t1) (pos (s .args .length1)) (s .args .t3) (pos (s .args .length2)) (f .result) (g .result) (c .before .equal-ordered .result) false l₁ l₂ (c .before .equal-ordered .ensures)
+    ∙ ordered-index (s .args .t1) (pos (s .args .length1)) (s .args .t3) (pos (s .args .length2)) (f .result) (g .result) (c .before .equal-ordered .result) inBytes l₁ l₂ (c .before .equal-ordered .ensures)
 
 pub index-0c-spec : {M : Type 1} → statement M
 index-0c-spec =

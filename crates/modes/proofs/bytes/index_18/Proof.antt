@@ -1,9 +1,10 @@
 -- `modes::bytes::index_18` meets its contract: at that control IntRes2 is the number of `differ`,
 -- and the index its least bit. Assumes nothing.
 use mathlib.Core.Path.{_∙_}
-use mathlib.Core.Bool.{false, not}
+use mathlib.Core.Bool.{not}
 use lib.IntN.{pos}
 use native.Mathlib.Omega.{arith}
+use Rattle.unit.specs.Operand.{inBytes}
 use Rattle.bits.proofs.Numbers.{least-read}
 use Rattle.unit.specs.Modes.{eachOf}
 use Rattle.unit.proofs.Unit.{cut-explicit, differ-index}
@@ -32,7 +33,7 @@ returns c =
     let l₁ = cut-explicit 16 (s .args .length1) (f .result) (f .ensures) in
     let l₂ = cut-explicit 16 (s .args .length2) (g .result) (g .ensures) in
     let d = c .before .differ in
-    differ-index (s .args .t1) (pos (s .args .length1)) (s .args .t3) (pos (s .args .length2)) (f .result) (g .result) (c .least .result) false l₁ l₂
+    differ-index (s .args .t1) (pos (s .args .length1)) (s .args .t3) (pos (s .args .length2)) (f .result) (g .result) (c .least .result) inBytes l₁ l₂
     (c .least .ensures ∙ least-read 16 (d .result) (λ j. not (eachOf (s .args .t1) (f .result) (s .args .t3) (g .result) j)) (omega arith) (d .ensures))
 
 pub index-18-spec : {M : Type 1} → statement M

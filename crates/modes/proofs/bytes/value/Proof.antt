@@ -1,10 +1,10 @@
 -- `modes::bytes::value` meets its contract: an element is small enough that neither the cast nor
 -- the difference loses anything. Assumes nothing.
 use mathlib.Core.Path.{sym, _∙_}
-use mathlib.Core.Bool.{false}
 use lib.IntN.{pos, _-ℤ_}
 use mir.Syntax.{w16}
 use mir.ValLaws.{toZ-pos, toZ-ofZ}
+use Rattle.unit.specs.Operand.{inBytes}
 use Rattle.unit.proofs.Signs.{difference, value-clear, value-set}
 use borrow.Author.Needs.{needs}
 use native.Mathlib.Omega.{arith}
@@ -28,12 +28,12 @@ cast-result-3 c = search needs
 returns : tie.Need-returns
 returns c =
     let x = c .before .before .args .x in
-    rw (c .before .if1 .taken) (toZ-pos w16 x (omega arith) ∙ sym (value-clear false x (c .if2 .taken)))
+    rw (c .before .if1 .taken) (toZ-pos w16 x (omega arith) ∙ sym (value-clear inBytes x (c .if2 .taken)))
 
 returns-2 : tie.Need-returns-2
 returns-2 c =
     let x = c .before .before .args .x in
-    rw (c .before .if1 .taken, toZ-pos w16 x (omega arith), toZ-ofZ w16 (pos x -ℤ pos 256) (difference w16 x 255 (omega arith))) (sym (value-set false x (c .if2 .left)))
+    rw (c .before .if1 .taken, toZ-pos w16 x (omega arith), toZ-ofZ w16 (pos x -ℤ pos 256) (difference w16 x 255 (omega arith))) (sym (value-set inBytes x (c .if2 .left)))
 
 returns-3 : tie.Need-returns-3
 returns-3 c =

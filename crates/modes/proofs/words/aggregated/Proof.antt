@@ -1,7 +1,7 @@
 -- `modes::words::aggregated` meets its contract: each mode's number is that of IntRes1 at its
 -- aggregation. Assumes nothing.
 use mathlib.Core.Path.{_∙_}
-use mathlib.Core.Bool.{true}
+use Rattle.unit.specs.Operand.{inWords}
 use Rattle.unit.proofs.Unit.{any-is, ranges-is, each-is, ordered-is}
 use borrow.Author.Needs.{needs}
 use Rattle.modes.proofs.words.aggregated.Statement.{statement}
@@ -35,25 +35,25 @@ returns : tie.Need-returns
 returns c =
     let s = c .before .before .before in
     let a = s .args in
-    c .equal-any .ensures ∙ any-is (a .k) true (s .pre .0) (a .x1 .now) (a .l1) (a .x2 .now) (a .l2) (s .pre .1) (c .before .enum-told .given .1)
+    c .equal-any .ensures ∙ any-is (a .k) inWords (s .pre .0) (a .x1 .now) (a .l1) (a .x2 .now) (a .l2) (s .pre .1) (c .before .enum-told .given .1)
 
 returns-2 : tie.Need-returns-2
 returns-2 c =
     let s = c .before .before .before .before .before in
     let a = s .args in
-    c .ranges .ensures ∙ ranges-is (a .k) true (s .pre .0) (a .x1 .now) (a .l1) (a .x2 .now) (a .l2) (s .pre .1) (c .before .before .before .enum-told2 .given .1)
+    c .ranges .ensures ∙ ranges-is (a .k) inWords (s .pre .0) (a .x1 .now) (a .l1) (a .x2 .now) (a .l2) (s .pre .1) (c .before .before .before .enum-told2 .given .1)
 
 returns-3 : tie.Need-returns-3
 returns-3 c =
     let s = c .before .before .before in
     let a = s .args in
-    c .equal-each .ensures ∙ each-is (a .k) true (s .pre .0) (a .x1 .now) (a .l1) (a .x2 .now) (a .l2) (s .pre .1) (c .before .enum-told3 .given .1)
+    c .equal-each .ensures ∙ each-is (a .k) inWords (s .pre .0) (a .x1 .now) (a .l1) (a .x2 .now) (a .l2) (s .pre .1) (c .before .enum-told3 .given .1)
 
 returns-4 : tie.Need-returns-4
 returns-4 c =
     let s = c .before .before .before in
     let a = s .args in
-    c .equal-ordered .ensures ∙ ordered-is (a .k) true (s .pre .0) (a .x1 .now) (a .l1) (a .x2 .now) (a .l2) (s .pre .1) (c .before .enum-told4 .given .1)
+    c .equal-ordered .ensures ∙ ordered-is (a .k) inWords (s .pre .0) (a .x1 .now) (a .l1) (a .x2 .now) (a .l2) (s .pre .1) (c .before .enum-told4 .given .1)
 
 pub aggregated-spec : {M : Type 1} → statement M
 aggregated-spec =

@@ -1,6 +1,6 @@
 -- `modes::words::compared` meets its contract: IntRes1 with the polarity's bits negated is IntRes2.
 -- Assumes nothing.
-use mathlib.Core.Bool.{true}
+use Rattle.unit.specs.Operand.{inWords}
 use Rattle.unit.proofs.Unit.{compared-is}
 use borrow.Author.Needs.{needs}
 use Rattle.modes.proofs.words.compared.Statement.{statement}
@@ -16,7 +16,7 @@ returns : tie.Need-returns
 returns c =
     let s = c .before .before in
     let a = s .args in
-    compared-is (a .k) true (a .x1 .now) (a .l1) (a .x2 .now) (a .l2) (c .before .aggregated .result) (c .negated .result) (s .pre .0) (c .before .aggregated .ensures) (c .negated .ensures)
+    compared-is (a .k) inWords (a .x1 .now) (a .l1) (a .x2 .now) (a .l2) (c .before .aggregated .result) (c .negated .result) (s .pre .0) (c .before .aggregated .ensures) (c .negated .ensures)
 
 pub compared-spec : {M : Type 1} → statement M
 compared-spec = tie.close (tie.spec aggregated-requires negated-requires returns)

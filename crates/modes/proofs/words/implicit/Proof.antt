@@ -1,6 +1,6 @@
 -- `modes::words::implicit` meets its contract: it hands on the elements and effective lengths that
 -- the definition names. Assumes nothing.
-use mathlib.Core.Bool.{true}
+use Rattle.unit.specs.Operand.{inWords}
 use Rattle.bits.proofs.Below.{least-within}
 use Rattle.unit.proofs.Unit.{implicit-is, words-count}
 use borrow.Author.Needs.{needs}
@@ -29,7 +29,7 @@ returns c =
     let a = s .args in
     let f = c .before .before .before .before .before .implicit-length in
     let g = c .before .before .before .implicit-length2 in
-    implicit-is (a .k) true (a .operand1) (a .operand2) (c .before .before .before .before .before .before .before .before .words-of .result) (f .result) (c .before .before .before .before .before .before .before .words-of2 .result) (g .result) (c .compared .result) (s .pre) (c .before .before .before .before .before .before .before .before .words-of .ensures) (rw (c .before .before .before .before .before .before .before .before .words-of .ensures) (words-count (a .operand1))) (f .ensures) (c .before .before .before .before .before .before .before .words-of2 .ensures) (rw (c .before .before .before .before .before .before .before .words-of2 .ensures) (words-count (a .operand2))) (g .ensures) (c .compared .ensures)
+    implicit-is (a .k) inWords (a .operand1) (a .operand2) (c .before .before .before .before .before .before .before .before .words-of .result) (f .result) (c .before .before .before .before .before .before .before .words-of2 .result) (g .result) (c .compared .result) (s .pre) (c .before .before .before .before .before .before .before .before .words-of .ensures) (rw (c .before .before .before .before .before .before .before .before .words-of .ensures) (words-count (a .operand1))) (f .ensures) (c .before .before .before .before .before .before .before .words-of2 .ensures) (rw (c .before .before .before .before .before .before .before .words-of2 .ensures) (words-count (a .operand2))) (g .ensures) (c .compared .ensures)
 
 pub implicit-spec : {M : Type 1} → statement M
 implicit-spec =

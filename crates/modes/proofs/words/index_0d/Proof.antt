@@ -1,9 +1,9 @@
 -- `modes::words::index_0d` meets its contract: at that control IntRes2 is the number of the mode,
 -- and the index its least bit. Assumes nothing.
 use mathlib.Core.Path.{_∙_}
-use mathlib.Core.Bool.{true}
 use lib.IntN.{pos}
 use native.Mathlib.Omega.{arith}
+use Rattle.unit.specs.Operand.{inWords}
 use Rattle.unit.proofs.Unit.{cut-explicit, ordered-index}
 use borrow.Author.Needs.{needs}
 use Rattle.modes.proofs.words.index_0d.Statement.{statement}
@@ -36,7 +36,7 @@ returns c =
     let l₁ = cut-explicit 8 (s .args .length1) (f .result) (f .ensures) in
     let l₂ = cut-explicit 8 (s .args .length2) (g .result) (g .ensures) in
     c .least .ensures
-    ∙ ordered-index (s .args .operand1) (pos (s .args .length1)) (s .args .operand2) (pos (s .args .length2)) (f .result) (g .result) (c .before .equal-ordered .result) true l₁ l₂ (rw (c .before .before .before .before .before .before .before .words-of .ensures, c .before .before .before .before .before .before .words-of2 .ensures) at (c .before .equal-ordered .ensures))
+    ∙ ordered-index (s .args .operand1) (pos (s .args .length1)) (s .args .operand2) (pos (s .args .length2)) (f .result) (g .result) (c .before .equal-ordered .result) inWords l₁ l₂ (rw (c .before .before .before .before .before .before .before .words-of .ensures, c .before .before .before .before .before .before .words-of2 .ensures) at (c .before .equal-ordered .ensures))
 
 pub index-0d-spec : {M : Type 1} → statement M
 index-0d-spec =

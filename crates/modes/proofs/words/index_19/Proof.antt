@@ -1,8 +1,8 @@
 -- `modes::words::index_19` meets its contract: at that control the index is where `differ_at` says.
 -- Assumes nothing.
-use mathlib.Core.Bool.{true}
 use lib.IntN.{pos}
 use native.Mathlib.Omega.{arith}
+use Rattle.unit.specs.Operand.{inWords}
 use Rattle.unit.proofs.Unit.{cut-explicit, differ-index}
 use borrow.Author.Needs.{needs}
 use Rattle.modes.proofs.words.index_19.Statement.{statement}
@@ -31,7 +31,7 @@ returns c =
     let g = c .before .before .before .min2 in
     let l₁ = cut-explicit 8 (s .args .length1) (f .result) (f .ensures) in
     let l₂ = cut-explicit 8 (s .args .length2) (g .result) (g .ensures) in
-    differ-index (s .args .operand1) (pos (s .args .length1)) (s .args .operand2) (pos (s .args .length2)) (f .result) (g .result) (c .differ-at .result) true l₁ l₂
+    differ-index (s .args .operand1) (pos (s .args .length1)) (s .args .operand2) (pos (s .args .length2)) (f .result) (g .result) (c .differ-at .result) inWords l₁ l₂
     (rw (c .before .before .before .before .before .before .words-of .ensures, c .before .before .before .before .before .words-of2 .ensures) at (c .differ-at .ensures))
 
 pub index-19-spec : {M : Type 1} → statement M

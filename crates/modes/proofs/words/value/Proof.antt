@@ -1,10 +1,10 @@
 -- `modes::words::value` meets its contract: an element is small enough that neither the cast nor
 -- the difference loses anything. Assumes nothing.
 use mathlib.Core.Path.{sym, _∙_}
-use mathlib.Core.Bool.{true}
 use lib.IntN.{pos, _-ℤ_}
 use mir.Syntax.{w32}
 use mir.ValLaws.{toZ-pos, toZ-ofZ}
+use Rattle.unit.specs.Operand.{inWords}
 use Rattle.unit.proofs.Signs.{difference, value-clear, value-set}
 use borrow.Author.Needs.{needs}
 use native.Mathlib.Omega.{arith}
@@ -28,12 +28,12 @@ cast-result-3 c = search needs
 returns : tie.Need-returns
 returns c =
     let x = c .before .before .args .x in
-    rw (c .before .if1 .taken) (toZ-pos w32 x (omega arith) ∙ sym (value-clear true x (c .if2 .taken)))
+    rw (c .before .if1 .taken) (toZ-pos w32 x (omega arith) ∙ sym (value-clear inWords x (c .if2 .taken)))
 
 returns-2 : tie.Need-returns-2
 returns-2 c =
     let x = c .before .before .args .x in
-    rw (c .before .if1 .taken, toZ-pos w32 x (omega arith), toZ-ofZ w32 (pos x -ℤ pos 65536) (difference w32 x 65535 (omega arith))) (sym (value-set true x (c .if2 .left)))
+    rw (c .before .if1 .taken, toZ-pos w32 x (omega arith), toZ-ofZ w32 (pos x -ℤ pos 65536) (difference w32 x 65535 (omega arith))) (sym (value-set inWords x (c .if2 .left)))
 
 returns-3 : tie.Need-returns-3
 returns-3 c =

@@ -1,10 +1,10 @@
 -- `orders::bytes::compare` meets its contract: the number, or the order. Assumes nothing.
 use mathlib.Core.Path.{_∙_}
-use mathlib.Core.Bool.{false}
 use lib.ListN.{length}
 use mir.Syntax.{w32}
 use mir.ValLaws.{toZ-ofZ}
 use native.Mathlib.Omega.{arith}
+use Rattle.unit.specs.Operand.{inBytes}
 use Rattle.orders.proofs.Calls.{order-accepted, answer-refused, answer-given}
 use Rattle.orders.proofs.bytes.compare.Statement.{statement}
 use Rattle.orders.proofs.bytes.compare.Tie as tie
@@ -16,7 +16,7 @@ returns : tie.Need-returns
 returns c =
     let a = c .before .before .before .before .args in
     let r = c .before .order-refusal in
-    answer-refused false (a .signed) (a .first .now) (a .second .now) (r .result) (r .ensures) (omega arith)
+    answer-refused inBytes (a .signed) (a .first .now) (a .second .now) (r .result) (r .ensures) (omega arith)
 
 order-requires : tie.Need-order-requires
 order-requires c κs =
@@ -27,7 +27,7 @@ returns-2 : tie.Need-returns-2
 returns-2 c =
     let a = c .before .before .before .before .before .args in
     let r = c .before .before .order-refusal in
-    answer-given false (a .signed) (a .first .now) (a .second .now) (r .result) (r .ensures) (omega arith) _ (toZ-ofZ w32 (c .order .result) (record { sfits = c .order .ok }) ∙ c .order .ensures)
+    answer-given inBytes (a .signed) (a .first .now) (a .second .now) (r .result) (r .ensures) (omega arith) _ (toZ-ofZ w32 (c .order .result) (record { sfits = c .order .ok }) ∙ c .order .ensures)
 
 pub compare-spec : {M : Type 1} → statement M
 compare-spec = tie.close (tie.spec order-refusal-requires returns order-requires returns-2)

@@ -1,12 +1,12 @@
 -- `orders::bytes::lesser` meets its contract: the second text only where the order is 1. Assumes
 -- nothing.
 use mathlib.Core.Path.{_∙_}
-use mathlib.Core.Bool.{false}
 use lib.ListN.{length}
 use mir.Syntax.{w32}
 use mir.ValLaws.{toZ-ofZ}
 use native.Mathlib.Omega.{arith}
 use borrow.Author.Needs.{needs}
+use Rattle.unit.specs.Operand.{inBytes}
 use Rattle.orders.proofs.Calls.{order-accepted, lesser-refused, lesser-second, lesser-first}
 use Rattle.orders.proofs.bytes.lesser.Statement.{statement}
 use Rattle.orders.proofs.bytes.lesser.Tie as tie
@@ -21,7 +21,7 @@ returns : tie.Need-returns
 returns c =
     let a = c .before .before .before .before .before .args in
     let r = c .before .before .lesser-refusal in
-    lesser-refused false (a .signed) (a .first .now) (a .second .now) (r .result) (r .ensures) (a .first .ptr) (a .second .ptr) (omega arith)
+    lesser-refused inBytes (a .signed) (a .first .now) (a .second .now) (r .result) (r .ensures) (a .first .ptr) (a .second .ptr) (omega arith)
 
 order-requires : tie.Need-order-requires
 order-requires c κs =
@@ -33,14 +33,14 @@ returns-2 c =
     let a = c .before .before .before .before .before .before .args in
     let r = c .before .before .before .lesser-refusal in
     let z = c .before .order in
-    lesser-second false (a .signed) (a .first .now) (a .second .now) (r .result) (r .ensures) (a .first .ptr) (a .second .ptr) (omega arith) _ (toZ-ofZ w32 (z .result) (record { sfits = z .ok }) ∙ z .ensures) (c .if2 .taken)
+    lesser-second inBytes (a .signed) (a .first .now) (a .second .now) (r .result) (r .ensures) (a .first .ptr) (a .second .ptr) (omega arith) _ (toZ-ofZ w32 (z .result) (record { sfits = z .ok }) ∙ z .ensures) (c .if2 .taken)
 
 returns-3 : tie.Need-returns-3
 returns-3 c =
     let a = c .before .before .before .before .before .before .args in
     let r = c .before .before .before .lesser-refusal in
     let z = c .before .order in
-    lesser-first false (a .signed) (a .first .now) (a .second .now) (r .result) (r .ensures) (a .first .ptr) (a .second .ptr) (omega arith) _ (toZ-ofZ w32 (z .result) (record { sfits = z .ok }) ∙ z .ensures) (c .if2 .left)
+    lesser-first inBytes (a .signed) (a .first .now) (a .second .now) (r .result) (r .ensures) (a .first .ptr) (a .second .ptr) (omega arith) _ (toZ-ofZ w32 (z .result) (record { sfits = z .ok }) ∙ z .ensures) (c .if2 .left)
 
 pub lesser-spec : {M : Type 1} → statement M
 lesser-spec =

@@ -2,9 +2,9 @@
 -- Assumes nothing.
 use Prim.Native.Nat.{_-_, _≤_}
 use mathlib.Core.Path.{_≡_}
-use mathlib.Core.Bool.{true, false}
 use native.Mathlib.Omega.{arith}
 use borrow.Author.Needs.{needs}
+use Rattle.unit.specs.Operand.{inWords}
 use Rattle.orders.proofs.Indexes.{ClearTo, clear-to-start, difference-found, difference-goes-on, difference-none}
 use Rattle.orders.proofs.words.difference.Statement.{statement}
 use Rattle.orders.proofs.words.difference.Tie as tie
@@ -68,7 +68,7 @@ returns c =
     let a = l .before .before .before .before .args in
     let n = l .before .min .ensures in
     let e = c .before .before .before .before .min2 in
-    difference-found (a .first .now) (a .second .now) true (l .loop .i) (e .result) (c .before .words-differ-at .result) (rw n at (e .ensures)) (omega (arith, n)) (l .loop .inv .1) (c .before .words-differ-at .ensures) (omega arith)
+    difference-found (a .first .now) (a .second .now) inWords (l .loop .i) (e .result) (c .before .words-differ-at .result) (rw n at (e .ensures)) (omega (arith, n)) (l .loop .inv .1) (c .before .words-differ-at .ensures) (omega arith)
 
 loop-less : tie.Need-loop-less Inv-loop μ-loop
 loop-less c = omega (arith, c .before .before .before .before .min2 .ensures)
@@ -79,7 +79,7 @@ loop-again c =
     let a = l .before .before .before .before .args in
     let n = l .before .min .ensures in
     let e = c .before .before .before .before .min2 in
-    (omega (arith, e .ensures), difference-goes-on (a .first .now) (a .second .now) true (l .loop .i) (e .result) (c .before .words-differ-at .result) (rw n at (e .ensures)) (omega (arith, n)) (l .loop .inv .1) (c .before .words-differ-at .ensures) (omega arith))
+    (omega (arith, e .ensures), difference-goes-on (a .first .now) (a .second .now) inWords (l .loop .i) (e .result) (c .before .words-differ-at .result) (rw n at (e .ensures)) (omega (arith, n)) (l .loop .inv .1) (c .before .words-differ-at .ensures) (omega arith))
 
 returns-2 : tie.Need-returns-2 Inv-loop μ-loop
 returns-2 c =

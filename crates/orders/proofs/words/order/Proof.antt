@@ -1,11 +1,11 @@
 -- `orders::words::order` meets its contract: at the first difference the values decide, and with
 -- none the lengths. Assumes nothing.
 use mathlib.Core.Path.{_∙_}
-use mathlib.Core.Bool.{true}
 use mir.Syntax.{w32}
 use mir.ValLaws.{toZ-ofZ}
 use native.Mathlib.Omega.{arith}
 use borrow.Author.Needs.{needs}
+use Rattle.unit.specs.Operand.{inWords}
 use Rattle.orders.specs.Orders.{sign}
 use Rattle.orders.proofs.Calls.{by-elements, by-lengths}
 use Rattle.orders.proofs.words.order.Statement.{statement}
@@ -46,7 +46,7 @@ returns c =
     let d = at-test .before .difference in
     let a = at-test .before .before .before .before .args in
     let z = c .order-of-values in
-    by-elements true (a .signed) (a .first .now) (a .second .now) (d .result) (d .ensures) _ (omega (arith, at-test .min .ensures))
+    by-elements inWords (a .signed) (a .first .now) (a .second .now) (d .result) (d .ensures) _ (omega (arith, at-test .min .ensures))
     (toZ-ofZ w32 (z .result) (record { sfits = z .ok }) ∙ z .ensures ∙ (λ t. sign ((toZ-ofZ w32 (v .result) (record { sfits = v .ok }) ∙ v .ensures) t) ((toZ-ofZ w32 (w .result) (record { sfits = w .ok }) ∙ w .ensures) t)))
 
 order-of-lengths-requires : tie.Need-order-of-lengths-requires
@@ -57,7 +57,7 @@ returns-2 c =
     let a = c .before .before .before .before .before .before .args in
     let d = c .before .before .before .difference in
     let z = c .order-of-lengths in
-    by-lengths true (a .signed) (a .first .now) (a .second .now) (d .result) (d .ensures) _ (omega (arith, c .before .before .min .ensures))
+    by-lengths inWords (a .signed) (a .first .now) (a .second .now) (d .result) (d .ensures) _ (omega (arith, c .before .before .min .ensures))
     (toZ-ofZ w32 (z .result) (record { sfits = z .ok }) ∙ z .ensures)
 
 pub order-spec : {M : Type 1} → statement M

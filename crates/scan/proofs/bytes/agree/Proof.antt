@@ -2,7 +2,6 @@
 -- nothing.
 use Prim.Native.Nat.{_+_, _-_, _*_, _≤_}
 use mathlib.Core.Path.{_≡_, refl, _∙_}
-use mathlib.Core.Bool.{false}
 use native.Mathlib.Omega.{arith}
 use borrow.Author.Needs.{needs}
 use borrow.Author.Tests.{lt-ltb, le-ltb}
@@ -14,7 +13,7 @@ use Rattle.scan.proofs.bytes.agree.Statement.{statement}
 use Rattle.scan.proofs.bytes.agree.Tie as tie
 
 abbrev Inv-loop : tie.InvT-loop
-Inv-loop x y n whole i₀ i = (i ≤ whole) × Agreed false x y i
+Inv-loop x y n whole i₀ i = (i ≤ whole) × Agreed inBytes x y i
 
 abbrev μ-loop : tie.MeasureT-loop
 μ-loop x y n whole i₀ i = whole - i
@@ -29,49 +28,49 @@ at-loop c = c .before .before .before .before .before .before
 
 whole : (c : tie.After-pcmpestri-18 Inv-loop μ-loop)
     → let a = at-entry (at-loop c) .args in
-    piecesDiffer false (a .x .now) (a .y .now) (at-loop c .loop .i) ≡ ltb (c .pcmpestri-18 .result) 16
+    piecesDiffer inBytes (a .x .now) (a .y .now) (at-loop c .loop .i) ≡ ltb (c .pcmpestri-18 .result) 16
 whole c =
     let a = at-entry (at-loop c) .args in
     let i = at-loop c .loop .i in
-    whole-differs false (a .x .now) (a .y .now) i (i * 16) (i * 16 + 16) (c .pcmpestri-18 .result) _ _ refl refl (omega arith) (c .pcmpestri-18 .ensures) (c .before .before .before .whole-bytes .ensures) (c .before .whole-bytes2 .ensures)
+    whole-differs inBytes (a .x .now) (a .y .now) i (i * 16) (i * 16 + 16) (c .pcmpestri-18 .result) _ _ refl refl (omega arith) (c .pcmpestri-18 .ensures) (c .before .before .before .whole-bytes .ensures) (c .before .whole-bytes2 .ensures)
 
 abbrev at-end : tie.After-bytes-differ-at Inv-loop μ-loop → tie.At-loop Inv-loop μ-loop
 at-end c = c .before .before .before .before .before
 
 last : (c : tie.After-bytes-differ-at Inv-loop μ-loop)
     → let a = at-entry (at-end c) .args in
-    piecesDiffer false (a .x .now) (a .y .now) (at-end c .loop .i) ≡ ltb (c .bytes-differ-at .result) 16
+    piecesDiffer inBytes (a .x .now) (a .y .now) (at-end c .loop .i) ≡ ltb (c .bytes-differ-at .result) 16
 last c =
     let a = at-entry (at-end c) .args in
     let i = at-end c .loop .i in
-    piece-differs false (a .x .now) (a .y .now) i (i * 16) _ (c .bytes-differ-at .result) refl (omega arith) (c .bytes-differ-at .ensures)
+    piece-differs inBytes (a .x .now) (a .y .now) i (i * 16) _ (c .bytes-differ-at .result) refl (omega arith) (c .bytes-differ-at .ensures)
 
 returns : tie.Need-returns Inv-loop μ-loop
 returns c =
     let k = c .before in
     let o = at-loop k in
     let a = at-entry o .args in
-    agreed-ended false (a .x .now) (a .y .now) (o .loop .i) (o .loop .inv .1) (omega arith) (whole k ∙ lt-ltb (k .pcmpestri-18 .result) 16 (c .if1 .taken))
+    agreed-ended inBytes (a .x .now) (a .y .now) (o .loop .i) (o .loop .inv .1) (omega arith) (whole k ∙ lt-ltb (k .pcmpestri-18 .result) 16 (c .if1 .taken))
 
 loop-again : tie.Need-loop-again Inv-loop μ-loop
 loop-again c =
     let k = c .before in
     let o = at-loop k in
     let a = at-entry o .args in
-    (omega arith, agreed-more false (a .x .now) (a .y .now) (o .loop .i) (o .loop .inv .1) (whole k ∙ le-ltb (k .pcmpestri-18 .result) 16 (c .if1 .left)))
+    (omega arith, agreed-more inBytes (a .x .now) (a .y .now) (o .loop .i) (o .loop .inv .1) (whole k ∙ le-ltb (k .pcmpestri-18 .result) 16 (c .if1 .left)))
 
 returns-2 : tie.Need-returns-2 Inv-loop μ-loop
 returns-2 c =
     let o = c .before .before in
     let a = at-entry o .args in
-    agreed-all false (a .x .now) (a .y .now) (o .loop .i) (o .loop .inv .1) (count-even inBytes _ (o .loop .i) (c .if2 .taken ∙ o .before .min .ensures))
+    agreed-all inBytes (a .x .now) (a .y .now) (o .loop .i) (o .loop .inv .1) (count-even inBytes _ (o .loop .i) (c .if2 .taken ∙ o .before .min .ensures))
 
 returns-3 : tie.Need-returns-3 Inv-loop μ-loop
 returns-3 c =
     let k = c .before in
     let o = at-end k in
     let a = at-entry o .args in
-    agreed-ended false (a .x .now) (a .y .now) (o .loop .i) (o .loop .inv .1) (omega arith) (last k ∙ lt-ltb (k .bytes-differ-at .result) 16 (c .if3 .taken))
+    agreed-ended inBytes (a .x .now) (a .y .now) (o .loop .i) (o .loop .inv .1) (omega arith) (last k ∙ lt-ltb (k .bytes-differ-at .result) 16 (c .if3 .taken))
 
 returns-4 : tie.Need-returns-4 Inv-loop μ-loop
 returns-4 c =
@@ -79,7 +78,7 @@ returns-4 c =
     let o = at-end k in
     let a = at-entry o .args in
     let i = o .loop .i in
-    agreed-all false (a .x .now) (a .y .now) (i + 1) (agreed-more false (a .x .now) (a .y .now) i (o .loop .inv .1) (last k ∙ le-ltb (k .bytes-differ-at .result) 16 (c .if3 .left))) (count-odd inBytes _ i (omega arith) (omega arith))
+    agreed-all inBytes (a .x .now) (a .y .now) (i + 1) (agreed-more inBytes (a .x .now) (a .y .now) i (o .loop .inv .1) (last k ∙ le-ltb (k .bytes-differ-at .result) 16 (c .if3 .left))) (count-odd inBytes _ i (omega arith) (omega arith))
 
 pub agree-spec : {M : Type 1} → statement M
 agree-spec =

@@ -2,7 +2,6 @@
 -- nothing.
 use Prim.Native.Nat.{_+_, _-_, _*_}
 use mathlib.Core.Path.{_≡_, refl, sym, _∙_}
-use mathlib.Core.Bool.{false}
 use native.Mathlib.Omega.{arith}
 use borrow.Author.Needs.{needs}
 use Rattle.unit.specs.Operand.{inBytes}
@@ -27,7 +26,7 @@ at-entry c = c .before .before .before
 
 compared : (c : tie.After-pcmpestri-0c Inv-loop μ-loop)
     → let a = at-entry (at-loop c) .args in
-    c .pcmpestri-0c .result ≡ indexIn false (a .operand1 .now) (a .l) (a .part .now) (at-loop c .loop .i)
+    c .pcmpestri-0c .result ≡ indexIn inBytes (a .operand1 .now) (a .l) (a .part .now) (at-loop c .loop .i)
 compared c =
     let a = at-entry (at-loop c) .args in
     let i = at-loop c .loop .i in
@@ -37,7 +36,7 @@ returns : tie.Need-returns Inv-loop μ-loop
 returns c =
     let o = at-loop (c .before) in
     let a = at-entry o .args in
-    scan-ended false (a .operand1 .now) (a .l) (a .part .now) (o .loop .i) (c .before .pcmpestri-0c .result) (o .loop .inv) (omega arith) (compared (c .before)) (c .if1 .taken)
+    scan-ended inBytes (a .operand1 .now) (a .l) (a .part .now) (o .loop .i) (c .before .pcmpestri-0c .result) (o .loop .inv) (omega arith) (compared (c .before)) (c .if1 .taken)
 
 pass-requires-2 : tie.Need-pass-requires-2 Inv-loop μ-loop
 pass-requires-2 c κs =
@@ -45,12 +44,12 @@ pass-requires-2 c κs =
     let s = at-entry o in
     let a = s .args in
     let none = sym (compared (c .before)) ∙ c .if1 .left in
-    record { some = s .pre .some; passed = passed-more false (a .operand1 .now) (a .l) (a .part .now) (o .loop .i) (o .loop .inv) (omega arith) none }
+    record { some = s .pre .some; passed = passed-more inBytes (a .operand1 .now) (a .l) (a .part .now) (o .loop .i) (o .loop .inv) (omega arith) none }
 
 returns-2 : tie.Need-returns-2 Inv-loop μ-loop
 returns-2 c =
     let a = at-entry (c .before) .args in
-    scan-over false (a .operand1 .now) (a .l) (a .part .now) (c .before .loop .i) (c .before .loop .inv) (omega arith)
+    scan-over inBytes (a .operand1 .now) (a .l) (a .part .now) (c .before .loop .i) (c .before .loop .inv) (omega arith)
 
 pub later-spec : {M : Type 1} → statement M
 later-spec =

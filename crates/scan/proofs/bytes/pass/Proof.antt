@@ -2,7 +2,6 @@
 -- nothing.
 use Prim.Native.Nat.{ℕ, _+_, _-_, _*_, _≤_}
 use mathlib.Core.Path.{_≡_, refl, _∙_}
-use mathlib.Core.Bool.{false}
 use native.Mathlib.Omega.{arith}
 use borrow.Author.Needs.{needs}
 use Rattle.unit.specs.Operand.{inBytes}
@@ -40,7 +39,7 @@ loop-again c =
     let at-entry = at-rows .before .before in
     let a = at-entry .args in
     let i = at-loop .loop .i in
-    let passed = block-passed false (a .operand1 .now) (a .l) (a .part .now) i (at-rows .unasked .result) (at-rows .unasked .ensures) (i * 16) (i * 16 + 16 + 3) refl refl (omega arith) (at-loop .loop .inv .passed) (omega arith) (c .before .may-start .ensures (c .if1 .left)) in
+    let passed = block-passed inBytes (a .operand1 .now) (a .l) (a .part .now) i (at-rows .unasked .result) (at-rows .unasked .ensures) (i * 16) (i * 16 + 16 + 3) refl refl (omega arith) (at-loop .loop .inv .passed) (omega arith) (c .before .may-start .ensures (c .if1 .left)) in
     record { passed = passed; onwards = omega (arith, at-loop .loop .inv .onwards) }
 
 pub pass-spec : {M : Type 1} → statement M

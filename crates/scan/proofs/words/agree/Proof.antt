@@ -2,7 +2,6 @@
 -- nothing.
 use Prim.Native.Nat.{_+_, _-_, _*_, _≤_}
 use mathlib.Core.Path.{_≡_, refl, _∙_}
-use mathlib.Core.Bool.{true}
 use native.Mathlib.Omega.{arith}
 use borrow.Author.Needs.{needs}
 use borrow.Author.Tests.{lt-ltb, le-ltb}
@@ -14,7 +13,7 @@ use Rattle.scan.proofs.words.agree.Statement.{statement}
 use Rattle.scan.proofs.words.agree.Tie as tie
 
 abbrev Inv-loop : tie.InvT-loop
-Inv-loop x y n whole i₀ i = (i ≤ whole) × Agreed true x y i
+Inv-loop x y n whole i₀ i = (i ≤ whole) × Agreed inWords x y i
 
 abbrev μ-loop : tie.MeasureT-loop
 μ-loop x y n whole i₀ i = whole - i
@@ -29,49 +28,49 @@ at-loop c = c .before .before .before .before .before .before
 
 whole : (c : tie.After-pcmpestri-19 Inv-loop μ-loop)
     → let a = at-entry (at-loop c) .args in
-    piecesDiffer true (a .x .now) (a .y .now) (at-loop c .loop .i) ≡ ltb (c .pcmpestri-19 .result) 8
+    piecesDiffer inWords (a .x .now) (a .y .now) (at-loop c .loop .i) ≡ ltb (c .pcmpestri-19 .result) 8
 whole c =
     let a = at-entry (at-loop c) .args in
     let i = at-loop c .loop .i in
-    whole-differs true (a .x .now) (a .y .now) i (i * 8) (i * 8 + 8) (c .pcmpestri-19 .result) _ _ refl refl (omega arith) (c .pcmpestri-19 .ensures) (c .before .before .before .whole-words .ensures) (c .before .whole-words2 .ensures)
+    whole-differs inWords (a .x .now) (a .y .now) i (i * 8) (i * 8 + 8) (c .pcmpestri-19 .result) _ _ refl refl (omega arith) (c .pcmpestri-19 .ensures) (c .before .before .before .whole-words .ensures) (c .before .whole-words2 .ensures)
 
 abbrev at-end : tie.After-words-differ-at Inv-loop μ-loop → tie.At-loop Inv-loop μ-loop
 at-end c = c .before .before .before .before .before
 
 last : (c : tie.After-words-differ-at Inv-loop μ-loop)
     → let a = at-entry (at-end c) .args in
-    piecesDiffer true (a .x .now) (a .y .now) (at-end c .loop .i) ≡ ltb (c .words-differ-at .result) 8
+    piecesDiffer inWords (a .x .now) (a .y .now) (at-end c .loop .i) ≡ ltb (c .words-differ-at .result) 8
 last c =
     let a = at-entry (at-end c) .args in
     let i = at-end c .loop .i in
-    piece-differs true (a .x .now) (a .y .now) i (i * 8) _ (c .words-differ-at .result) refl (omega arith) (c .words-differ-at .ensures)
+    piece-differs inWords (a .x .now) (a .y .now) i (i * 8) _ (c .words-differ-at .result) refl (omega arith) (c .words-differ-at .ensures)
 
 returns : tie.Need-returns Inv-loop μ-loop
 returns c =
     let k = c .before in
     let o = at-loop k in
     let a = at-entry o .args in
-    agreed-ended true (a .x .now) (a .y .now) (o .loop .i) (o .loop .inv .1) (omega arith) (whole k ∙ lt-ltb (k .pcmpestri-19 .result) 8 (c .if1 .taken))
+    agreed-ended inWords (a .x .now) (a .y .now) (o .loop .i) (o .loop .inv .1) (omega arith) (whole k ∙ lt-ltb (k .pcmpestri-19 .result) 8 (c .if1 .taken))
 
 loop-again : tie.Need-loop-again Inv-loop μ-loop
 loop-again c =
     let k = c .before in
     let o = at-loop k in
     let a = at-entry o .args in
-    (omega arith, agreed-more true (a .x .now) (a .y .now) (o .loop .i) (o .loop .inv .1) (whole k ∙ le-ltb (k .pcmpestri-19 .result) 8 (c .if1 .left)))
+    (omega arith, agreed-more inWords (a .x .now) (a .y .now) (o .loop .i) (o .loop .inv .1) (whole k ∙ le-ltb (k .pcmpestri-19 .result) 8 (c .if1 .left)))
 
 returns-2 : tie.Need-returns-2 Inv-loop μ-loop
 returns-2 c =
     let o = c .before .before in
     let a = at-entry o .args in
-    agreed-all true (a .x .now) (a .y .now) (o .loop .i) (o .loop .inv .1) (count-even inWords _ (o .loop .i) (c .if2 .taken ∙ o .before .min .ensures))
+    agreed-all inWords (a .x .now) (a .y .now) (o .loop .i) (o .loop .inv .1) (count-even inWords _ (o .loop .i) (c .if2 .taken ∙ o .before .min .ensures))
 
 returns-3 : tie.Need-returns-3 Inv-loop μ-loop
 returns-3 c =
     let k = c .before in
     let o = at-end k in
     let a = at-entry o .args in
-    agreed-ended true (a .x .now) (a .y .now) (o .loop .i) (o .loop .inv .1) (omega arith) (last k ∙ lt-ltb (k .words-differ-at .result) 8 (c .if3 .taken))
+    agreed-ended inWords (a .x .now) (a .y .now) (o .loop .i) (o .loop .inv .1) (omega arith) (last k ∙ lt-ltb (k .words-differ-at .result) 8 (c .if3 .taken))
 
 returns-4 : tie.Need-returns-4 Inv-loop μ-loop
 returns-4 c =
@@ -79,7 +78,7 @@ returns-4 c =
     let o = at-end k in
     let a = at-entry o .args in
     let i = o .loop .i in
-    agreed-all true (a .x .now) (a .y .now) (i + 1) (agreed-more true (a .x .now) (a .y .now) i (o .loop .inv .1) (last k ∙ le-ltb (k .words-differ-at .result) 8 (c .if3 .left))) (count-odd inWords _ i (omega arith) (omega arith))
+    agreed-all inWords (a .x .now) (a .y .now) (i + 1) (agreed-more inWords (a .x .now) (a .y .now) i (o .loop .inv .1) (last k ∙ le-ltb (k .words-differ-at .result) 8 (c .if3 .left))) (count-odd inWords _ i (omega arith) (omega arith))
 
 pub agree-spec : {M : Type 1} → statement M
 agree-spec =

@@ -2,7 +2,6 @@
 -- nothing.
 use Prim.Native.Nat.{_+_, _-_, _*_}
 use mathlib.Core.Path.{_≡_, refl, sym, _∙_}
-use mathlib.Core.Bool.{true}
 use native.Mathlib.Omega.{arith}
 use borrow.Author.Needs.{needs}
 use Rattle.unit.specs.Operand.{inWords}
@@ -31,7 +30,7 @@ at-pass c = c .before .before .before .before
 
 compared : (c : tie.After-pcmpestri-0d Inv-loop μ-loop)
     → let a = at-entry (at-loop (at-pass c)) .args in
-    c .pcmpestri-0d .result ≡ indexIn true (a .t1) (a .l) (a .part .now) (at-pass c .pass .result)
+    c .pcmpestri-0d .result ≡ indexIn inWords (a .t1) (a .l) (a .part .now) (at-pass c .pass .result)
 compared c =
     let a = at-entry (at-loop (at-pass c)) .args in
     let q = at-pass c .pass .result in
@@ -40,24 +39,24 @@ compared c =
 returns : tie.Need-returns Inv-loop μ-loop
 returns c =
     let a = at-entry (at-loop (c .before)) .args in
-    scan-over true (a .t1) (a .l) (a .part .now) (c .before .pass .result) (c .before .pass .ensures .passed) (omega arith)
+    scan-over inWords (a .t1) (a .l) (a .part .now) (c .before .pass .result) (c .before .pass .ensures .passed) (omega arith)
 
 returns-2 : tie.Need-returns-2 Inv-loop μ-loop
 returns-2 c =
     let p = at-pass (c .before) in
     let a = at-entry (at-loop p) .args in
-    scan-ended true (a .t1) (a .l) (a .part .now) (p .pass .result) (c .before .pcmpestri-0d .result) (p .pass .ensures .passed) (omega arith) (compared (c .before)) (c .if2 .taken)
+    scan-ended inWords (a .t1) (a .l) (a .part .now) (p .pass .result) (c .before .pcmpestri-0d .result) (p .pass .ensures .passed) (omega arith) (compared (c .before)) (c .if2 .taken)
 
 loop-again : tie.Need-loop-again Inv-loop μ-loop
 loop-again c =
     let p = at-pass (c .before) in
     let a = at-entry (at-loop p) .args in
-    passed-more true (a .t1) (a .l) (a .part .now) (p .pass .result) (p .pass .ensures .passed) (omega arith) (sym (compared (c .before)) ∙ c .if2 .left)
+    passed-more inWords (a .t1) (a .l) (a .part .now) (p .pass .result) (p .pass .ensures .passed) (omega arith) (sym (compared (c .before)) ∙ c .if2 .left)
 
 returns-3 : tie.Need-returns-3 Inv-loop μ-loop
 returns-3 c =
     let a = at-entry (c .before) .args in
-    scan-over true (a .t1) (a .l) (a .part .now) (c .before .loop .i) (c .before .loop .inv) (omega arith)
+    scan-over inWords (a .t1) (a .l) (a .part .now) (c .before .loop .i) (c .before .loop .inv) (omega arith)
 
 pub scan-spec : {M : Type 1} → statement M
 scan-spec =
@@ -65,7 +64,7 @@ scan-spec =
     (tie.spec
     Inv-loop
     μ-loop
-    (λ c. passed-start true _ _ _)
+    (λ c. passed-start inWords _ _ _)
     (λ c κs. c .before .before .loop .inv)
     returns
     (λ c. search needs)

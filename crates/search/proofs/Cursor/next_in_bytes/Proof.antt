@@ -1,10 +1,10 @@
 -- `search::Cursor::next_in_bytes` meets its contract: refused by its number, or the end of the
 -- walk. Assumes nothing.
 use mathlib.Core.Path.{_≡_, sym, _∙_}
-use mathlib.Core.Bool.{false}
 use lib.ListN.{length}
 use native.Mathlib.Omega.{arith}
 use borrow.Author.Needs.{needs}
+use Rattle.unit.specs.Operand.{inBytes}
 use Rattle.search.specs.Cursors.{refusal}
 use Rattle.search.proofs.Lists.{next-refused}
 use Rattle.search.proofs.Turns.{next-ended}
@@ -24,7 +24,7 @@ returns : tie.Need-returns
 returns c =
     let o = c .before in
     let a = at-entry o .args in
-    sym (next-refused false (a .text .now) (a .needle .now) (a .self) (o .refusal .result) (sym (o .refusal .ensures)) (omega arith))
+    sym (next-refused inBytes (a .text .now) (a .needle .now) (a .self) (o .refusal .result) (sym (o .refusal .ensures)) (omega arith))
 
 walk-in-bytes-requires : tie.Need-walk-in-bytes-requires
 walk-in-bytes-requires c κs = record { accepted = none (c .before .before) (omega arith); size = omega arith }
@@ -33,7 +33,7 @@ returns-2 : tie.Need-returns-2
 returns-2 c =
     let o = c .before .before .before in
     let a = at-entry o .args in
-    c .walk-in-bytes .ensures ∙ next-ended false (a .text .now) (a .needle .now) (a .self) (none o (omega arith))
+    c .walk-in-bytes .ensures ∙ next-ended inBytes (a .text .now) (a .needle .now) (a .self) (none o (omega arith))
 
 walk-in-bytes-requires-2 : tie.Need-walk-in-bytes-requires-2
 walk-in-bytes-requires-2 c κs = record { accepted = none (c .before .before) (omega arith); size = omega arith }
@@ -42,7 +42,7 @@ returns-3 : tie.Need-returns-3
 returns-3 c =
     let o = c .before .before .before in
     let a = at-entry o .args in
-    c .walk-in-bytes2 .ensures ∙ next-ended false (a .text .now) (a .needle .now) (a .self) (none o (omega arith))
+    c .walk-in-bytes2 .ensures ∙ next-ended inBytes (a .text .now) (a .needle .now) (a .self) (none o (omega arith))
 
 pub next-in-bytes-spec : {M : Type 1} → statement M
 next-in-bytes-spec =

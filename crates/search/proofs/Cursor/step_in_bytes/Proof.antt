@@ -2,11 +2,11 @@
 -- comes to. Assumes nothing.
 use Prim.Native.Nat.{ℕ, _+_, _-_, _≤_}
 use mathlib.Core.Path.{_≡_, refl, ap, _∙_}
-use mathlib.Core.Bool.{false}
 use lib.Dec.{eqb}
 use lib.ListN.{length}
 use native.Mathlib.Omega.{arith}
 use borrow.Author.Needs.{needs}
+use Rattle.unit.specs.Operand.{inBytes}
 use Rattle.search.specs.Moves.{steppedBy}
 use Rattle.search.proofs.Scans.{Scanning, blocks-within, index-below, led-over, led-place, led-zero, past-few, past-ready, past-small}
 use Rattle.search.proofs.Turns.{led-short}
@@ -22,7 +22,7 @@ at-scan c = c .before .before .before
 
 scanning : (c : tie.After-scan)
     → let a = at-entry c .args in
-    Scanning false (a .text .now) (a .needle .now) (a .first .now) (a .l) (a .self) (length (a .text .now) - (length (a .needle .now) - a .l)) (c .scan .result)
+    Scanning inBytes (a .text .now) (a .needle .now) (a .first .now) (a .l) (a .self) (length (a .text .now) - (length (a .needle .now) - a .l)) (c .scan .result)
 scanning c = record { ready = at-entry c .pre; end = refl; whole = c .before .before .before .if1 .left; is = c .scan .ensures }
 
 -- the block at the text's end
@@ -33,7 +33,7 @@ returns c =
     let a = s .args in
     let by = c .before .before .min .ensures in
     let r = c .stepped .ensures ∙ ap (λ (n : ℕ). steppedBy (a .self) (eqb (k .pcmpestri-0c .result) 0) n (a .self .compares + 1)) by in
-    rw r (led-short false (a .text .now) (a .needle .now) (a .first .now) (a .l) (a .self) (s .pre) _ (k .pcmpestri-0c .result) _ refl (omega arith) (k .pcmpestri-0c .ensures) (k .before .padded-bytes .ensures))
+    rw r (led-short inBytes (a .text .now) (a .needle .now) (a .first .now) (a .l) (a .self) (s .pre) _ (k .pcmpestri-0c .result) _ refl (omega arith) (k .pcmpestri-0c .ensures) (k .before .padded-bytes .ensures))
 
 -- the cursor past the scan's blocks
 mul-moved : tie.Need-mul-moved

@@ -2,7 +2,6 @@
 -- reached, with the compares so far, ends as the walk from the start. Assumes nothing.
 use Prim.Native.Nat.{_+_, _-_, _≤_}
 use mathlib.Core.Path.{_≡_, refl, sym, ap, _∙_}
-use mathlib.Core.Bool.{true}
 use lib.ListN.{length, length-take}
 use native.Mathlib.Omega.{arith}
 use borrow.Author.Needs.{needs}
@@ -32,7 +31,7 @@ at-loop c = c .before .before .before
 returns : tie.Need-returns Inv-loop μ-loop
 returns c =
     let a = c .before .before .before .before .args in
-    c .empty-needle .ensures ∙ total-empty true (a .text .now) (a .needle .now) (a .self) (c .before .if1 .taken)
+    c .empty-needle .ensures ∙ total-empty inWords (a .text .now) (a .needle .now) (a .self) (c .before .if1 .taken)
 
 step-in-words-requires : tie.Need-step-in-words-requires Inv-loop μ-loop
 step-in-words-requires c κs =
@@ -57,7 +56,7 @@ returns-2 c =
     let t = c .before .before .before in
     let o = at-loop t in
     let a = at-entry o .args in
-    c .matched .ensures ∙ turn-found true (a .text .now) (a .needle .now) (a .self) (o .loop .at) (t .step-in-words .result) (t .step-in-words .ensures) (o .loop .inv .1) (c .before .if2 .taken)
+    c .matched .ensures ∙ turn-found inWords (a .text .now) (a .needle .now) (a .self) (o .loop .at) (t .step-in-words .result) (t .step-in-words .ensures) (o .loop .inv .1) (c .before .if2 .taken)
 
 loop-less : tie.Need-loop-less Inv-loop μ-loop
 loop-less c =
@@ -70,13 +69,13 @@ loop-again c =
     let t = c .before .before in
     let o = at-loop t in
     let a = at-entry o .args in
-    (omega (arith, t .step-in-words .ensures .near), turn-on true (a .text .now) (a .needle .now) (a .self) (o .loop .at) (t .step-in-words .result) (t .step-in-words .ensures) (o .loop .inv .1) (c .if2 .left))
+    (omega (arith, t .step-in-words .ensures .near), turn-on inWords (a .text .now) (a .needle .now) (a .self) (o .loop .at) (t .step-in-words .result) (t .step-in-words .ensures) (o .loop .inv .1) (c .if2 .left))
 
 returns-3 : tie.Need-returns-3 Inv-loop μ-loop
 returns-3 c =
     let o = c .before .before in
     let a = at-entry o .args in
-    c .absent .ensures ∙ ap (ended (a .self)) (sym (total-past true (a .text .now) (a .needle .now) (o .loop .at) (omega arith)) ∙ o .loop .inv .1)
+    c .absent .ensures ∙ ap (ended (a .self)) (sym (total-past inWords (a .text .now) (a .needle .now) (o .loop .at) (omega arith)) ∙ o .loop .inv .1)
 
 pub walk-in-words-spec : {M : Type 1} → statement M
 walk-in-words-spec =

@@ -1,17 +1,17 @@
 -- `spans::bytes::length_of_span` meets its contract. The invariant: every element before i belongs.
 -- Assumes nothing.
 use Prim.Native.Nat.{_-_, _≤_}
-use mathlib.Core.Bool.{false}
 use lib.ListN.{length}
 use mir.Syntax.{w32}
 use mir.ValLaws.{toZ-pos}
 use native.Mathlib.Omega.{arith}
+use Rattle.unit.specs.Operand.{inBytes}
 use Rattle.spans.proofs.Indexes.{ClearTo, clear-to-start, span-ends, span-goes-on, span-whole}
 use Rattle.spans.proofs.bytes.length_of_span.Statement.{statement}
 use Rattle.spans.proofs.bytes.length_of_span.Tie as tie
 
 abbrev Inv-loop : tie.InvT-loop
-Inv-loop text list ranges signed operand l control i₀ i = (i ≤ length text) × ClearTo false ranges signed list text i
+Inv-loop text list ranges signed operand l control i₀ i = (i ≤ length text) × ClearTo inBytes ranges signed list text i
 
 abbrev μ-loop : tie.MeasureT-loop
 μ-loop text list ranges signed operand l control i₀ i = length text - i
@@ -28,7 +28,7 @@ span-control-requires c κs = tt
 loop-holds : tie.Need-loop-holds Inv-loop μ-loop
 loop-holds c =
     let a = c .before .before .before .before .args in
-    (omega arith, clear-to-start false (a .ranges) (a .signed) (a .list .now) (a .text .now))
+    (omega arith, clear-to-start inBytes (a .ranges) (a .signed) (a .list .now) (a .text .now))
 
 front-requires : tie.Need-front-requires Inv-loop μ-loop
 front-requires c κs = (omega arith, omega arith)
@@ -43,7 +43,7 @@ returns c =
     let v = at-loop .before .span-control in
     let a = at-loop .before .before .before .before .before .args in
     let k = c .before .front in
-    span-ends false (a .ranges) (a .signed) (a .list .now) (a .text .now) (at-loop .loop .i) (k .result) _ (o .result) _
+    span-ends inBytes (a .ranges) (a .signed) (a .list .now) (a .text .now) (at-loop .loop .i) (k .result) _ (o .result) _
     (o .ensures) (toZ-pos w32 (length (a .list .now)) (omega arith)) (omega (arith, v .ensures)) (omega arith) (omega arith) (at-loop .loop .inv .1) (k .ensures) (omega arith)
 
 add-i : tie.Need-add-i Inv-loop μ-loop
@@ -59,14 +59,14 @@ loop-again c =
     let v = at-loop .before .span-control in
     let a = at-loop .before .before .before .before .before .args in
     let k = c .before .front in
-    span-goes-on false (a .ranges) (a .signed) (a .list .now) (a .text .now) (at-loop .loop .i) (k .result) _ (o .result) _
+    span-goes-on inBytes (a .ranges) (a .signed) (a .list .now) (a .text .now) (at-loop .loop .i) (k .result) _ (o .result) _
     (o .ensures) (toZ-pos w32 (length (a .list .now)) (omega arith)) (omega (arith, v .ensures)) (omega arith) (omega arith) (at-loop .loop .inv .1) (k .ensures) (omega arith)
 
 returns-2 : tie.Need-returns-2 Inv-loop μ-loop
 returns-2 c =
     let l = c .before in
     let a = l .before .before .before .before .before .args in
-    span-whole false (a .ranges) (a .signed) (a .list .now) (a .text .now) (l .loop .i) (omega arith) (l .loop .inv .1)
+    span-whole inBytes (a .ranges) (a .signed) (a .list .now) (a .text .now) (l .loop .i) (omega arith) (l .loop .inv .1)
 
 pub length-of-span-spec : {M : Type 1} → statement M
 length-of-span-spec =

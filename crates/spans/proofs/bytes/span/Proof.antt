@@ -22,7 +22,7 @@ returns : tie.Need-returns
 returns c =
     let a = c .before .before .before .before .before .args in
     let r = c .before .before .span-refusal in
-    (refl, set-refused false (a .text .now) (a .set .now) (r .result) (r .ensures) (omega arith))
+    (refl, set-refused inBytes (a .text .now) (a .set .now) (r .result) (r .ensures) (omega arith))
 
 length-of-span-requires : tie.Need-length-of-span-requires
 length-of-span-requires c κs =
@@ -38,7 +38,7 @@ returns-2 : tie.Need-returns-2
 returns-2 c =
     let a = c .before .before .before .before .before .before .args in
     let r = c .before .before .before .span-refusal in
-    (refl, set-given false (a .text .now) (a .set .now) (r .result) (r .ensures) (omega arith) (c .before .length-of-span .result) (c .before .length-of-span .ensures))
+    (refl, set-given inBytes (a .text .now) (a .set .now) (r .result) (r .ensures) (omega arith) (c .before .length-of-span .result) (c .before .length-of-span .ensures))
 
 pub span-spec : {M : Type 1} → statement M
 span-spec =

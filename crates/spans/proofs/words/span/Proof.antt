@@ -1,7 +1,7 @@
 -- `spans::words::span` meets its contract: refused, it gives the empty front; accepted, the front
 -- as long as the span. Assumes nothing.
 use mathlib.Core.Path.{refl}
-use mathlib.Core.Bool.{true, false}
+use mathlib.Core.Bool.{false}
 use lib.ListN.{length, length-take}
 use native.Mathlib.Omega.{arith}
 use borrow.Author.Needs.{needs}
@@ -22,7 +22,7 @@ returns : tie.Need-returns
 returns c =
     let a = c .before .before .before .before .before .args in
     let r = c .before .before .span-refusal in
-    (refl, set-refused true (a .text .now) (a .set .now) (r .result) (r .ensures) (omega arith))
+    (refl, set-refused inWords (a .text .now) (a .set .now) (r .result) (r .ensures) (omega arith))
 
 length-of-span-requires : tie.Need-length-of-span-requires
 length-of-span-requires c κs =
@@ -38,7 +38,7 @@ returns-2 : tie.Need-returns-2
 returns-2 c =
     let a = c .before .before .before .before .before .before .args in
     let r = c .before .before .before .span-refusal in
-    (refl, set-given true (a .text .now) (a .set .now) (r .result) (r .ensures) (omega arith) (c .before .length-of-span .result) (c .before .length-of-span .ensures))
+    (refl, set-given inWords (a .text .now) (a .set .now) (r .result) (r .ensures) (omega arith) (c .before .length-of-span .result) (c .before .length-of-span .ensures))
 
 pub span-spec : {M : Type 1} → statement M
 span-spec =
