@@ -1,6 +1,6 @@
 -- Laws of what crosses to C: a call with refusal 0 writes, and any other leaves what stood there.
 -- Assumes nothing.
-use Prim.Native.Nat.{ℕ, _+_}
+use Prim.Native.Nat.{ℕ, zero, suc, _+_, _<_}
 use mathlib.Core.Path.{_≡_, refl, sym, ap, subst, _∙_}
 use mathlib.Core.Bool.{Bool, true, false, cond, _&&_}
 use mathlib.Core.List.{List, []}
@@ -8,6 +8,7 @@ use lib.Dec.{eqb}
 use lib.IntN.{ℤ, pos}
 use lib.ListN.{length}
 use lib.Signed.{ltZ}
+use native.Mathlib.Omega.{arith}
 use borrow.Author.Tests.{eq-eqb, ne-eqb}
 use Rattle.unit.specs.declared.Flags.{Flags}
 use Rattle.unit.specs.declared.IndexAnswer.{IndexAnswer}
@@ -15,11 +16,15 @@ use Rattle.unit.specs.declared.MaskAnswer.{MaskAnswer}
 use Rattle.search.specs.declared.Cursor.{Cursor}
 use Rattle.search.specs.declared.Next.{Next}
 use Rattle.search.specs.declared.Next.the-variants.{Match, Absent, Refused}
+use Rattle.search.specs.declared.End.{End}
+use Rattle.search.specs.declared.End.the-variants.{Full, Absent as EndAbsent, Stopped}
+use Rattle.search.specs.declared.Filled.{Filled}
+use Rattle.search.specs.Fills.{Fill, FillGiven as Filling, FillSaid, fillSaid, saidAt, stopped, stoppedAfter}
 use Rattle.orders.specs.declared.OrderAnswer.{OrderAnswer}
 use Rattle.orders.specs.Orders.{isSecond, order, orderAnswer, orderRefusal}
 use Rattle.report.specs.declared.ReportAnswer.{ReportAnswer}
 use Rattle.report.specs.Report.{linesOf, refusalOf, Reported}
-use Rattle.capi.specs.Crossing.{eflags, IndexGiven, LesserGiven, MaskGiven, NextGiven, NumberGiven, numbersOf, OrderGiven, ReportGiven, unlessRefused}
+use Rattle.capi.specs.Crossing.{countAfter, eflags, FilledGiven, FillGiven, fillCursorAfter, fillStatus, IndexGiven, LesserGiven, MaskGiven, NextGiven, NumberGiven, numbersOf, OrderGiven, ReportGiven, unlessRefused}
 
 pub written : {A : Type 0} (number : ℕ) (new old : A) → number ≡ 0 → new ≡ unlessRefused number new old
 written number new old e = sym (ap (λ (t : Bool). cond t new old) (eq-eqb number 0 e))
@@ -64,6 +69,38 @@ absent-written a c ns ns' old e made =
 pub refused-kept : (a : Next) (number : ℕ) (c : Cursor) (ns : List ℕ) (old : ℕ) → a ≡ Refused number c → NextGiven a ns old number ns old
 refused-kept a number c ns old e =
     subst (λ (n : Next). NextGiven n ns old number ns old) (sym e) (record { status = refl; cursor-after = refl; position-after = refl })
+
+-- ---- the fill
+
+module _ (a : Filled) (ns : List ℕ) (old : ℕ) where
+  pub full-written : (ns' : List ℕ) → a .end ≡ Full → ns' ≡ numbersOf (a .cursor) → FilledGiven a ns old 257 ns' (a .count)
+  full-written ns' e made = rw e (record { status = refl; cursor-after = made; count-after = refl })
+
+  pub no-more-written : (ns' : List ℕ) → a .end ≡ EndAbsent → ns' ≡ numbersOf (a .cursor) → FilledGiven a ns old 256 ns' (a .count)
+  no-more-written ns' e made = rw e (record { status = refl; cursor-after = made; count-after = refl })
+
+  some-found : (number k : ℕ) → 0 < k → stoppedAfter number k ≡ stopped number k
+  some-found number zero h = absurd (omega arith)
+  some-found number (suc k) h = refl
+
+  -- a number after some positions
+  pub stopped-written : (number : ℕ) (ns' : List ℕ) → a .end ≡ Stopped number → 0 < a .count → ns' ≡ numbersOf (a .cursor) → FilledGiven a ns old number ns' (a .count)
+  stopped-written number ns' e h made =
+      let told : fillSaid a ≡ stopped number (a .count) = ap (λ (x : End). saidAt x (a .count)) e ∙ some-found number (a .count) h in record {
+        status = sym (ap fillStatus told);
+        cursor-after = made ∙ sym (ap (λ (s : FillSaid). fillCursorAfter s (a .cursor) ns) told);
+        count-after = sym (ap (λ (s : FillSaid). countAfter s old) told);
+      }
+
+  -- a number before the first
+  pub stopped-kept : (number : ℕ) → a .end ≡ Stopped number → a .count ≡ 0 → FilledGiven a ns old number ns old
+  stopped-kept number e z = rw (e, z) (record { status = refl; cursor-after = refl; count-after = refl })
+
+-- what the search answered, handed on
+pub fill-handed : (f : Fill) (a : Filled) (ns positions : List ℕ) (old r : ℕ) (ns' positions' : List ℕ) (new : ℕ)
+    → Filling f positions a positions' → FilledGiven a ns old r ns' new → FillGiven f ns positions old r ns' positions' new
+fill-handed f a ns positions old r ns' positions' new told given =
+    record { answer = subst (λ (x : Filled). FilledGiven x ns old r ns' new) (told .answer) given; positions-after = told .list-after }
 
 -- ---- runs and orders
 

@@ -14,6 +14,8 @@ use Rattle.unit.specs.declared.MaskAnswer.{MaskAnswer}
 use Rattle.search.specs.declared.Cursor.{Cursor}
 use Rattle.search.specs.declared.Next.{Next}
 use Rattle.search.specs.Cursors.{cursorAt}
+use Rattle.search.specs.declared.Filled.{Filled}
+use Rattle.search.specs.Fills.{Fill, FillSaid, full, absent as noMore, stopped, refused as unfilled, answerOf, fillSaid, written}
 use Rattle.search.specs.Calls.{Said, found, absent, refused, said, cursorOf as nextCursor}
 use Rattle.report.specs.Report.{linesOf, refusalOf as reportRefusal}
 use Rattle.orders.specs.declared.OrderAnswer.{OrderAnswer}
@@ -87,6 +89,42 @@ pub record NextGiven (a : Next) (cursor : List ℕ) (position r : ℕ) (cursor' 
   pub status : r ≡ statusOf (said a)
   pub cursor-after : cursor' ≡ cursorAfter (said a) (nextCursor a) cursor
   pub position-after : position' ≡ positionAfter (said a) position
+
+-- ---- the fill
+
+-- what a fill returns: 257 for full and 256 for absent, which are above every refusal's number, or
+-- the number that stopped or refused it
+abbrev pub fillStatus : FillSaid → ℕ
+fillStatus (full count) = 257
+fillStatus (noMore count) = 256
+fillStatus (stopped number count) = number
+fillStatus (unfilled number) = number
+
+-- the three numbers after a fill, and the count: new ones, or what stood there where it was refused
+abbrev pub fillCursorAfter : FillSaid → Cursor → List ℕ → List ℕ
+fillCursorAfter (full count) c ns = numbersOf c
+fillCursorAfter (noMore count) c ns = numbersOf c
+fillCursorAfter (stopped number count) c ns = numbersOf c
+fillCursorAfter (unfilled number) c ns = ns
+
+abbrev pub countAfter : FillSaid → ℕ → ℕ
+countAfter (full count) old = count
+countAfter (noMore count) old = count
+countAfter (stopped number count) old = count
+countAfter (unfilled number) old = old
+
+-- an answer, cursor and count before the call, what it returns, cursor and count after it
+pub record FilledGiven (a : Filled) (cursor : List ℕ) (count r : ℕ) (cursor' : List ℕ)
+    (count' : ℕ) : Type 0 where
+  pub status : r ≡ fillStatus (fillSaid a)
+  pub cursor-after : cursor' ≡ fillCursorAfter (fillSaid a) (a .cursor) cursor
+  pub count-after : count' ≡ countAfter (fillSaid a) count
+
+-- the fill, with the list of positions before and after it
+pub record FillGiven (f : Fill) (cursor positions : List ℕ) (count r : ℕ)
+    (cursor' positions' : List ℕ) (count' : ℕ) : Type 0 where
+  pub answer : FilledGiven (answerOf f) cursor count r cursor' count'
+  pub positions-after : positions' ≡ written (f .positions) positions
 
 -- ---- runs and orders
 

@@ -8,5 +8,7 @@ pub mod Walks
 pub mod Scans
 pub mod Lists
 pub mod Callers
+pub mod Mixtures
 pub mod Turns
+pub mod Fills
 pub mod Refusals

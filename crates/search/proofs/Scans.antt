@@ -179,5 +179,6 @@ module _ {words : Bool} {text needle first : List ℕ} {l : ℕ} {c : Cursor} {e
         rw h record {
           same = rw (add-zero (a .position)) past-same;
           onwards = λ _. omega (arith, blocks-some words (e - p) (s .blocks) (scan .whole) all, past-at);
+          ahead = omega (arith, past-at);
           near = omega (arith, past-at, mul-comm (s .blocks) b, blocks-within);
         }

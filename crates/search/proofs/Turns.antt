@@ -18,7 +18,7 @@ use Rattle.search.specs.declared.Cursor.{Cursor}
 use Rattle.search.specs.declared.Stepped.{Stepped}
 use Rattle.search.specs.Walk.{Later, noneDiffers, oneDiffers, more, ordered, here, onward, afterLater, step, Ended, matchAt, nowhere, plus, walk}
 use Rattle.search.specs.Cursors.{longestNeedle, mostCompares, refusal, accepted, nextMatch}
-use Rattle.search.specs.Moves.{Led, Ready, emptyNeedle, ended, from, laterAt, manyCompares, rested, steppedBy, total}
+use Rattle.search.specs.Moves.{Led, Ready, Steppable, ended, from, laterAt, manyCompares, rested, steppedBy, total}
 use Rattle.search.proofs.Pieces.{later-end, more-none}
 use Rattle.search.proofs.Steps.{first-called, first-most, first-within, step-empty, step-fits, step-index, step-none, step-past}
 use Rattle.search.proofs.Walks.{plus-plus, walk-here, walk-past, walk-onward, walkCompares, walk-few}
@@ -31,6 +31,7 @@ module _ (words : Bool) (text needle : List ℕ) (c : Cursor) where
   led-here k e h = record {
     same = rw (add-zero (c .position)) (sym (ap (plus (c .compares)) (walk-here words text needle (c .position) k e)));
     onwards = λ f. absurd (let z : _≡_ {A = ℕ} 0 1 = cc in omega arith);
+    ahead = omega arith;
     near = omega arith;
   }
 
@@ -39,12 +40,13 @@ module _ (words : Bool) (text needle : List ℕ) (c : Cursor) where
   led-onward q k by e at more near = record {
     same = rw (sym at) (sym (ap (plus (c .compares)) (walk-onward words text needle (c .position) q k e) ∙ plus-plus (c .compares) k (walk words text needle q)));
     onwards = λ _. omega arith;
+    ahead = omega arith;
     near = omega arith;
   }
 
   -- first to the cursor a, and from there to r
   pub led-on : (a : Cursor) (r : Stepped) → total words text needle a ≡ total words text needle c → c .position ≤ a .position → Led words text needle a r → Led words text needle c r
-  led-on a r e h k = record { same = k .same ∙ e; onwards = λ f. omega (arith, k .onwards f); near = k .near }
+  led-on a r e h k = record { same = k .same ∙ e; onwards = λ f. omega (arith, k .onwards f); ahead = omega (arith, k .ahead); near = k .near }
 
   -- the later pieces, with the first piece's compare, make the step
   pub led-rested : 0 < length needle → c .position + length needle ≤ length text → (l : Later) → step words text needle (c .position) ≡ afterLater (c .position) l
@@ -55,6 +57,20 @@ module _ (words : Bool) (text needle : List ℕ) (c : Cursor) where
   led-rested some room (oneDiffers n) e =
       let count : c .compares + 1 + n ≡ c .compares + suc n = omega arith in
       rw count (led-onward (suc (c .position)) (suc n) 1 e (omega arith) (omega arith) (omega arith))
+
+  -- an empty needle stands at once, with no compare
+  pub led-empty : length needle ≡ 0 → c .position ≤ length text → Led words text needle c (steppedBy c true 0 (c .compares))
+  led-empty z h = rw (add-zero (c .compares)) at (led-here 0 (step-empty words text needle (c .position) z h) h)
+
+-- what a step of a needle that is not empty has
+pub ready : (words : Bool) (text needle first : List ℕ) (l : ℕ) (c : Cursor) → Steppable words text needle first l c → 0 < length needle → Ready words text needle first l c
+ready words text needle first l c s some = record {
+  searchable = record { small = s .small; short = s .short; some = some };
+  room = s .room;
+  few = s .few;
+  size = s .size;
+  operand = s .operand;
+}
 
 -- The block at the text's end, shorter than a whole one: k is the index of its compare.
 module _ (words : Bool) (text needle first : List ℕ) (l : ℕ) (c : Cursor) (ready : Ready words text needle first l c) (e k : ℕ) (o : List ℕ) where
@@ -95,16 +111,6 @@ module _ (words : Bool) (text needle : List ℕ) (c : Cursor) where
   pub total-past : length text < c .position + length needle → total words text needle c ≡ nowhere (c .compares)
   total-past h =
       ap (plus (c .compares)) (walk-past words text needle (c .position) (step-past words text needle (c .position) h)) ∙ ap nowhere (add-zero (c .compares))
-
-  -- an empty needle stands wherever the text has got to
-  pub total-empty : length needle ≡ 0 → emptyNeedle (length text) c ≡ ended c (total words text needle c)
-  total-empty z = ap (ended c) (sym either)
-    where
-      either : total words text needle c ≡ cond (ltb (length text) (c .position)) (nowhere (c .compares)) (matchAt (c .position) (c .compares))
-      either =
-          by-order (length text) (c .position) (λ h. rw (lt-ltb (length text) (c .position) h) (total-past (omega arith)))
-          (λ h. rw (le-ltb (length text) (c .position) h)
-          (ap (plus (c .compares)) (walk-here words text needle (c .position) 0 (step-empty words text needle (c .position) z h)) ∙ ap (matchAt (c .position)) (add-zero (c .compares))))
 
   -- an accepted call answers how its walk ends
   pub next-ended : refusal (length text) (length needle) c ≡ 0 → ended c (total words text needle c) ≡ nextMatch words text needle c

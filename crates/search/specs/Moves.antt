@@ -10,9 +10,15 @@ use Rattle.blocks.specs.Blocks.{longestText, operandOf}
 use Rattle.unit.specs.Operand.{count}
 use Rattle.search.specs.declared.Cursor.{Cursor}
 use Rattle.search.specs.declared.Next.{Next}
-use Rattle.search.specs.declared.Next.the-variants.{Match, Absent}
+use Rattle.search.specs.declared.Next.the-variants.{Match, Absent, Refused}
+use Rattle.search.specs.declared.End.{End}
+use Rattle.search.specs.declared.End.the-variants.{Full, Absent as EndAbsent, Stopped}
+use Rattle.search.specs.declared.Filled.{Filled}
 use Rattle.search.specs.declared.Stepped.{Stepped}
+use Rattle.search.specs.declared.Walked.{Walked}
 use Rattle.search.specs.Cursors.{cursorAt, longestNeedle, refusal}
+use Rattle.search.specs.Calls.{cursorOf}
+use Rattle.search.specs.Fills.{answerOf, fillFrom, written}
 use Rattle.search.specs.Walk.{Later, noneDiffers, oneDiffers, later, Ended, matchAt, nowhere, plus, walk}
 
 -- ---- what they ask
@@ -43,10 +49,22 @@ pub record Ready (words : Bool) (text needle first : List ℕ) (l : ℕ) (c : Cu
   pub size : l ≡ min (count words) (length needle)
   pub operand : first ≡ operandOf words (take l needle)
 
--- no refusal, and the size of the needle's first piece, for a walk
-pub record Walkable (words : Bool) (text needle : List ℕ) (l : ℕ) (c : Cursor) : Type 0 where
+-- The same for a step, where the needle may be empty.
+pub record Steppable (words : Bool) (text needle first : List ℕ) (l : ℕ) (c : Cursor)
+    : Type 0 where
+  pub small : length text ≤ longestText
+  pub short : length needle ≤ longestNeedle
+  pub room : c .position + length needle ≤ length text
+  pub few : c .compares ≤ manyCompares
+  pub size : l ≡ min (count words) (length needle)
+  pub operand : first ≡ operandOf words (take l needle)
+
+-- no refusal, the size of the needle's first piece, and a list with a place or more, for a walk
+pub record Walkable (words : Bool) (text needle : List ℕ) (l : ℕ) (c : Cursor) (list : List ℕ)
+    : Type 0 where
   pub accepted : refusal (length text) (length needle) c ≡ 0
   pub size : l ≡ min (count words) (length needle)
+  pub places : 0 < length list
 
 -- ---- how a cursor moves
 
@@ -90,10 +108,11 @@ from words text needle true c = matchAt (c .position) (c .compares)
 from words text needle false c = total words text needle c
 
 -- Steps led from the cursor c to r: the walk ends as before, with all its compares. If they did not
--- find the needle, they moved on.
+-- find the needle, they moved on; they never go back.
 pub record Led (words : Bool) (text needle : List ℕ) (c : Cursor) (r : Stepped) : Type 0 where
   pub same : from words text needle (r .found) (r .cursor) ≡ total words text needle c
   pub onwards : r .found ≡ false → c .position < r .cursor .position
+  pub ahead : c .position ≤ r .cursor .position
   pub near : r .cursor .position ≤ length text
 
 -- ---- the answer
@@ -104,8 +123,27 @@ abbrev pub ended : Cursor → Ended → Next
 ended c (matchAt q k) = Match q (moved c (q + 1) k false)
 ended c (nowhere k) = Absent (moved c (c .position) k true)
 
--- the answer for an empty needle in a text of n elements
-abbrev pub emptyNeedle : ℕ → Cursor → Next
-emptyNeedle n c =
-    ended c
-    (cond (ltb n (c .position)) (nowhere (c .compares)) (matchAt (c .position) (c .compares)))
+-- ---- a walk over several matches
+
+-- how a fill ended, from the last answer
+abbrev pub endOf : Next → End
+endOf (Match p c) = Full
+endOf (Absent c) = EndAbsent
+endOf (Refused number c) = Stopped number
+
+-- a fill's answer, from how many positions it wrote and the last answer
+abbrev pub filledBy : ℕ → Next → Filled
+filledBy count last =
+    record {
+      count = count;
+      cursor = cursorOf last;
+      end = endOf last;
+    }
+
+-- The walk w from the cursor c on, with this list before and after it: it is a fill, and with one
+-- place its last answer is the next match.
+pub record Walks (next : Cursor → Next) (c : Cursor) (list : List ℕ) (w : Walked) (list' : List ℕ)
+    : Type 0 where
+  pub answer : filledBy (w .count) (w .last) ≡ answerOf (fillFrom next (length list) c)
+  pub list-after : list' ≡ written (fillFrom next (length list) c .positions) list
+  pub one : length list ≡ 1 → w .last ≡ next c

@@ -1,13 +1,17 @@
-// The search in words: the needle's later pieces, a step, the walk, and the call.
+// The search in words: the needle's later pieces, a step, the walk, and the two calls.
 use crate::Cursor;
+use crate::End;
+use crate::Filled;
 use crate::Next;
 use crate::Stepped;
+use crate::Walked;
 use blocks::padded_words;
 ghost use mathlib.Core.Path.{_≡_};
-ghost use Prim.Native.Nat.{_+_};
+ghost use lib.ListN.{length};
 ghost use Rattle.unit.specs.Operand.{inWords};
 ghost use Rattle.search.specs.Cursors.{nextMatch};
-ghost use Rattle.search.specs.Moves.{Walkable, Led, Ready, Room, ended, laterAt, rested, total};
+ghost use Rattle.search.specs.Fills.{FillGiven, fill};
+ghost use Rattle.search.specs.Moves.{Led, Room, Steppable, Walkable, Walks, laterAt, rested};
 
 impl Cursor {
     // The cursor after the needle's later pieces, where its first l words stand at the cursor's
@@ -28,9 +32,12 @@ impl Cursor {
     // One step of the walk or more. Whole blocks go by a scan, up to e, so that each leaves room
     // for the needle; less than one is the text's end. `first` is the operand of the first l words.
     fn step_in_words(self, text: &[u16], needle: &[u16], first: &[u8; 16], l: usize) -> Stepped
-        requires { ⌜ Ready inWords (now text) (now needle) (now first) l self ⌝ }
+        requires { ⌜ Steppable inWords (now text) (now needle) (now first) l self ⌝ }
         ensures { λ r. ⌜ Led inWords (now (text .entry)) (now (needle .entry)) self r ⌝ }
     {
+        if needle.len() == 0 {
+            return self.stepped(true, 0, self.compares);
+        }
         let p = self.position as usize;
         let e = text.len() - (needle.len() - l);
         if e - p < 8 {
@@ -50,31 +57,49 @@ impl Cursor {
         at.stepped(false, s.index as u64, at.compares + 1)
     }
 
-    // The walk from the cursor's position, for a needle whose first piece has l words.
-    fn walk_in_words(self, text: &[u16], needle: &[u16], l: usize) -> Next
-        requires { ⌜ Walkable inWords (now text) (now needle) l self ⌝ }
-        ensures { λ r. ⌜ r
-            ≡ ended self (total inWords (now (text .entry)) (now (needle .entry)) self) ⌝ }
+    // The walk from the cursor's position, on past each match until the list is full. The needle's
+    // first piece has l words; its operand is made once.
+    fn walk_in_words(self, text: &[u16], needle: &[u16], l: usize, positions: &mut [u64]) -> Walked
+        requires { ⌜ Walkable inWords (now text) (now needle) l self (now positions) ⌝ }
+        ensures { λ r. ⌜ Walks (nextMatch inWords (now (text .entry)) (now (needle .entry))) self
+            (now (positions .entry)) r (now (positions .exit)) ⌝ }
     {
         let n = text.len();
         let m = needle.len();
-        if m == 0 {
-            return self.empty_needle(n);
-        }
         let first = padded_words(&needle[..l]);
+        let mut from = self;
         let mut at = self;
+        let mut k = 0;
         while (at.position as usize) + m <= n {
             let s = at.step_in_words(text, needle, &first, l);
             at = s.cursor;
             if s.found {
-                return self.matched(at.position, at.compares);
+                positions[k] = at.position;
+                k += 1;
+                if k == positions.len() {
+                    return Walked {
+                        count: k,
+                        last: from.matched(at.position, at.compares),
+                    };
+                }
+                from = from.moved(at.position + 1, at.compares, false);
+                at = from;
+                let number = from.refusal(n, m);
+                if number > 0 {
+                    return Walked {
+                        count: k,
+                        last: Next::Refused(number, from),
+                    };
+                }
             }
         }
-        self.absent(at.compares)
+        Walked {
+            count: k,
+            last: from.absent(at.compares),
+        }
     }
 
-    // The next match of a needle of words (document 01: next hit). The walk is called in two places
-    // for speed (docs/PERFORMANCE.md).
+    // The next match of a needle of words (document 01: next hit): a walk with a list of one.
     pub fn next_in_words(self, text: &[u16], needle: &[u16]) -> Next
         ensures { λ r. ⌜ r ≡ nextMatch inWords (now (text .entry)) (now (needle .entry)) self ⌝ }
     {
@@ -82,9 +107,34 @@ impl Cursor {
         if number > 0 {
             return Next::Refused(number, self);
         }
-        if needle.len() < 8 {
-            return self.walk_in_words(text, needle, needle.len());
+        let mut position = [0u64; 1];
+        let l = bits::min(needle.len(), 8);
+        let w = self.walk_in_words(text, needle, l, &mut position);
+        w.last
+    }
+
+    // The next matches of a needle of words, as many as the list has places for (document 02 [1]).
+    pub fn fill_in_words(self, text: &[u16], needle: &[u16], positions: &mut [u64]) -> Filled
+        ensures { λ r. ⌜ FillGiven
+            (fill inWords (now (text .entry)) (now (needle .entry))
+            (length (now (positions .entry))) self)
+            (now (positions .entry)) r (now (positions .exit)) ⌝ }
+    {
+        let number = self.refusal(text.len(), needle.len());
+        let places = positions.len();
+        if number > 0 {
+            return Next::Refused(number, self).filled(0);
         }
-        self.walk_in_words(text, needle, 8)
+        if places == 0 {
+            return Filled {
+                count: 0,
+                cursor: self,
+                end: End::Full,
+            };
+        }
+        let l = bits::min(needle.len(), 8);
+        let w = self.walk_in_words(text, needle, l, positions);
+        let last = w.last;
+        last.filled(w.count)
     }
 }

@@ -1,82 +1,125 @@
--- `search::Cursor::walk_in_bytes` meets its contract. The invariant: the walk from the position
--- reached, with the compares so far, ends as the walk from the start. Assumes nothing.
-use Prim.Native.Nat.{_+_, _-_, _≤_}
-use mathlib.Core.Path.{_≡_, refl, sym, ap, _∙_}
+-- `search::Cursor::walk_in_bytes` meets its contract. The invariant: the positions found so far, then
+-- the fill of the places left, make up the whole fill (Fills.antt). Assumes nothing.
+use Prim.Native.Nat.{_+_, _-_}
+use mathlib.Core.Path.{_≡_, sym, ap, _∙_}
 use lib.ListN.{length, length-take}
 use native.Mathlib.Omega.{arith}
 use borrow.Author.Needs.{needs}
 use Rattle.unit.specs.Operand.{inBytes}
+use Rattle.search.specs.declared.Cursor.{Cursor}
 use Rattle.blocks.proofs.Operands.{filled-zeros}
-use Rattle.search.specs.Moves.{ended, total}
 use Rattle.search.proofs.Refusals.{Accepted, accepted-is}
-use Rattle.search.proofs.Turns.{total-empty, total-few, total-past, turn-found, turn-on}
+use Rattle.search.proofs.Turns.{total-few}
+use Rattle.search.proofs.Fills.{Going, going-length, going-on, going-past, going-start, hit-full, hit-on, hit-stopped, put-length}
 use Rattle.search.proofs.Cursor.walk_in_bytes.Statement.{statement}
 use Rattle.search.proofs.Cursor.walk_in_bytes.Tie as tie
 
 abbrev Inv-loop : tie.InvT-loop
-Inv-loop self text needle l n m first at₀ at = (at .position ≤ length text + 1) × (total inBytes text needle at ≡ total inBytes text needle self)
+Inv-loop text needle l positions₀ n m first from₀ at₀ k₀ positions from at k = Going inBytes text needle positions₀ from₀ from at k positions
 
 abbrev μ-loop : tie.MeasureT-loop
-μ-loop self text needle l n m first at₀ at = length text + 2 - at .position
+μ-loop text needle l positions₀ n m first from₀ at₀ k₀ positions from at k = length text + 2 - at .position
 
--- the places: what the function was handed, and what that tells; the loop's head; a step
+-- the places: what the function was handed, the loop's head, a step, and the steps after a match
 abbrev at-entry : tie.At-loop Inv-loop μ-loop → tie.Start Inv-loop μ-loop
 at-entry c = c .before .before .before .before .before .before .before
-
-limits : (s : tie.Start Inv-loop μ-loop) → Accepted (length (s .args .text .now)) (length (s .args .needle .now)) (s .args .self)
-limits s = accepted-is (length (s .args .text .now)) (length (s .args .needle .now)) (s .args .self) (s .pre .accepted)
 
 abbrev at-loop : tie.After-step-in-bytes Inv-loop μ-loop → tie.At-loop Inv-loop μ-loop
 at-loop c = c .before .before .before
 
-returns : tie.Need-returns Inv-loop μ-loop
-returns c =
-    let a = c .before .before .before .before .args in
-    c .empty-needle .ensures ∙ total-empty inBytes (a .text .now) (a .needle .now) (a .self) (c .before .if1 .taken)
+-- what the cursor of the present match tells
+limits : (c : tie.At-loop Inv-loop μ-loop) → Accepted (length (at-entry c .args .text .now)) (length (at-entry c .args .needle .now)) (c .loop .from)
+limits c = accepted-is (length (at-entry c .args .text .now)) (length (at-entry c .args .needle .now)) (c .loop .from) (c .loop .inv .accepted)
+
+loop-holds : tie.Need-loop-holds Inv-loop μ-loop
+loop-holds c =
+    let s = c .before .before .before .before .before .before in
+    let a = s .args in
+    going-start inBytes (a .text .now) (a .needle .now) (a .positions .now) (a .self) (s .pre .accepted) (s .pre .places)
 
 step-in-bytes-requires : tie.Need-step-in-bytes-requires Inv-loop μ-loop
 step-in-bytes-requires c κs =
     let o = c .before .before in
     let s = at-entry o in
     let a = s .args in
-    let k = limits s in record {
-      searchable = record { small = k .text; short = k .needle; some = omega arith };
+    let k = limits o in record {
+      small = k .text;
+      short = k .needle;
       room = omega arith;
-      few = total-few inBytes (a .text .now) (a .needle .now) (a .self) (o .loop .at) (o .loop .inv .1) (k .text) (k .needle) (k .compares);
+      few = total-few inBytes (a .text .now) (a .needle .now) (o .loop .from) (o .loop .at) (o .loop .inv .same) (k .text) (k .needle) (k .compares);
       size = s .pre .size;
       operand = filled-zeros _ _ (o .before .fill-bytes .ensures);
     }
 
+-- a match
+slice-write-positions : tie.Need-slice-write-positions Inv-loop μ-loop
+slice-write-positions c =
+    let o = at-loop (c .before .before) in
+    omega (arith, going-length (o .loop .inv), o .loop .inv .below)
+
 matched-requires : tie.Need-matched-requires Inv-loop μ-loop
 matched-requires c κs =
-    let t = c .before .before in
-    omega (arith, t .step-in-bytes .ensures .near, limits (at-entry (at-loop t)) .text)
+    let t = c .before .before .before in
+    omega (arith, t .step-in-bytes .ensures .near, limits (at-loop t) .text)
+
+same-length : tie.Need-same-length Inv-loop μ-loop
+same-length c =
+    let o = at-loop (c .before .before .before .before) in
+    put-length (o .loop .inv) _
+
+returns : tie.Need-returns Inv-loop μ-loop
+returns c =
+    let t = c .before .before .before .before in
+    let g = at-loop t .loop .inv in
+    hit-full g (t .step-in-bytes .result) (t .step-in-bytes .ensures) (c .before .before .if1 .taken) (omega (arith, put-length g (t .step-in-bytes .result .cursor .position))) (c .matched .result) (c .matched .ensures)
+
+add-moved : tie.Need-add-moved Inv-loop μ-loop
+add-moved c =
+    let t = c .before .before .before .before in
+    omega (arith, t .step-in-bytes .ensures .near, limits (at-loop t) .text)
+
+same-length-2 : tie.Need-same-length-2 Inv-loop μ-loop
+same-length-2 c =
+    let o = at-loop (c .before .before .before .before .before .before .before) in
+    put-length (o .loop .inv) _
 
 returns-2 : tie.Need-returns-2 Inv-loop μ-loop
 returns-2 c =
-    let t = c .before .before .before in
-    let o = at-loop t in
-    let a = at-entry o .args in
-    c .matched .ensures ∙ turn-found inBytes (a .text .now) (a .needle .now) (a .self) (o .loop .at) (t .step-in-bytes .result) (t .step-in-bytes .ensures) (o .loop .inv .1) (c .before .if2 .taken)
+    let t = c .before .before .before .before .before .before .before in
+    let g = at-loop t .loop .inv in
+    hit-stopped g (t .step-in-bytes .result) (t .step-in-bytes .ensures) (c .before .before .before .before .before .if1 .taken) (omega (arith, put-length g (t .step-in-bytes .result .cursor .position), g .below)) (c .before .before .moved .result) (c .before .before .moved .ensures) (c .before .refusal .result) (sym (c .before .refusal .ensures)) (omega arith)
 
 loop-less : tie.Need-loop-less Inv-loop μ-loop
 loop-less c =
-    let t = c .before .before in
-    let o = at-loop t in
-    omega (arith, t .step-in-bytes .ensures .onwards (c .if2 .left), t .step-in-bytes .ensures .near)
+    let t = c .before .before .before .before .before .before .before in
+    let at = c .before .before .moved .ensures in
+    omega (arith, t .step-in-bytes .ensures .ahead, t .step-in-bytes .ensures .near, ap (λ (a : Cursor). a .position) at)
 
 loop-again : tie.Need-loop-again Inv-loop μ-loop
 loop-again c =
+    let t = c .before .before .before .before .before .before .before in
+    let g = at-loop t .loop .inv in
+    hit-on g (t .step-in-bytes .result) (t .step-in-bytes .ensures) (c .before .before .before .before .before .if1 .taken) (omega (arith, put-length g (t .step-in-bytes .result .cursor .position), g .below)) (c .before .before .moved .result) (c .before .before .moved .ensures) (sym (c .before .refusal .ensures) ∙ omega arith)
+
+-- no match yet
+loop-less-2 : tie.Need-loop-less-2 Inv-loop μ-loop
+loop-less-2 c =
     let t = c .before .before in
-    let o = at-loop t in
-    let a = at-entry o .args in
-    (omega (arith, t .step-in-bytes .ensures .near), turn-on inBytes (a .text .now) (a .needle .now) (a .self) (o .loop .at) (t .step-in-bytes .result) (t .step-in-bytes .ensures) (o .loop .inv .1) (c .if2 .left))
+    omega (arith, t .step-in-bytes .ensures .onwards (c .if1 .left), t .step-in-bytes .ensures .near)
+
+loop-again-2 : tie.Need-loop-again-2 Inv-loop μ-loop
+loop-again-2 c =
+    let t = c .before .before in
+    going-on (at-loop t .loop .inv) (t .step-in-bytes .result) (t .step-in-bytes .ensures) (c .if1 .left)
+
+-- no room is left
+same-length-3 : tie.Need-same-length-3 Inv-loop μ-loop
+same-length-3 c = going-length (c .before .before .loop .inv)
 
 returns-3 : tie.Need-returns-3 Inv-loop μ-loop
 returns-3 c =
     let o = c .before .before in
-    let a = at-entry o .args in
-    c .absent .ensures ∙ ap (ended (a .self)) (sym (total-past inBytes (a .text .now) (a .needle .now) (o .loop .at) (omega arith)) ∙ o .loop .inv .1)
+    going-past (o .loop .inv) (omega arith) (c .absent .result) (c .absent .ensures)
 
 pub walk-in-bytes-spec : {M : Type 1} → statement M
 walk-in-bytes-spec =
@@ -84,16 +127,26 @@ walk-in-bytes-spec =
     (tie.spec
     Inv-loop
     μ-loop
-    (λ c κs. omega (arith, limits (c .before .before .before) .text))
-    returns
     (λ c. rw length-take (omega arith))
     (λ c κs. search needs)
-    (λ c. (omega (arith, limits (c .before .before .before .before .before .before) .position), refl))
+    loop-holds
     (λ c. search needs)
     step-in-bytes-requires
+    (λ c. search needs)
+    slice-write-positions
+    (λ c. search needs)
     matched-requires
+    same-length
+    returns
+    add-moved
+    (λ c κs. search needs)
+    (λ c κs. search needs)
+    same-length-2
     returns-2
     loop-less
     loop-again
+    loop-less-2
+    loop-again-2
     (λ c κs. search needs)
+    same-length-3
     returns-3)

@@ -1,0 +1,216 @@
+-- What one turn of the walk over several matches comes to, on plain values and over the width. The
+-- positions found so far stand in front of the list, and what the fill comes to is those, then the
+-- fill of the places left from the cursor of the present match on. Assumes nothing.
+use Prim.Native.Nat.{ℕ, zero, suc, _+_, _-_, _≤_, _<_}
+use mathlib.Core.Path.{_≡_, refl, sym, ap, _∙_}
+use mathlib.Core.Bool.{Bool, true, false}
+use mathlib.Core.List.{List, [], _∷_, _++_, append-nil, append-assoc}
+use lib.ListN.{length, getD, drop, set, length-append, length-drop, length-set}
+use lib.Seq.{drop-cons, set-at}
+use native.Mathlib.Omega.{arith}
+use native.Mathlib.Nat.{sub-zero}
+use native.Mathlib.Numerals.{add-one}
+use Rattle.search.specs.declared.Cursor.{Cursor}
+use Rattle.search.specs.declared.Next.{Next}
+use Rattle.search.specs.declared.Next.the-variants.{Match, Absent, Refused}
+use Rattle.search.specs.declared.End.{End}
+use Rattle.search.specs.declared.End.the-variants.{Full, Stopped}
+use Rattle.search.specs.declared.Filled.{Filled}
+use Rattle.search.specs.declared.Stepped.{Stepped}
+use Rattle.search.specs.declared.Walked.{Walked}
+use Rattle.search.specs.Walk.{matchAt, nowhere}
+use Rattle.search.specs.Cursors.{refusal, nextMatch}
+use Rattle.search.specs.Calls.{cursorOf}
+use Rattle.search.specs.Fills.{Fill, FillGiven, answerOf, fill, fillFrom, fillOf, written}
+use Rattle.search.specs.Moves.{Led, Walks, ended, endOf, filledBy, moved, total}
+use Rattle.search.proofs.Lists.{next-refused}
+use Rattle.search.proofs.Refusals.{accepted-is}
+use Rattle.search.proofs.Turns.{next-ended, total-past, turn-found, turn-on}
+
+-- positions in front of a fill
+abbrev pub inFront : List ℕ → Fill → Fill
+inFront ps f = fillOf (ps ++ f .positions) (f .cursor) (f .end)
+
+-- The walk from the cursor c has found k positions and written them to the list. The present match
+-- began with the cursor `from`, which is accepted, and has got to `at`.
+pub record Going (words : Bool) (text needle list : List ℕ) (c from at : Cursor) (k : ℕ) (list' : List ℕ) : Type 0 where
+  pub found : List ℕ
+  pub size : length found ≡ k
+  pub below : k < length list
+  pub list-is : list' ≡ written found list
+  pub rest : inFront found (fillFrom (nextMatch words text needle) (length list - k) from) ≡ fillFrom (nextMatch words text needle) (length list) c
+  pub accepted : refusal (length text) (length needle) from ≡ 0
+  pub near : at .position ≤ length text + 1
+  pub same : total words text needle at ≡ total words text needle from
+  pub one : length list ≡ 1 → from ≡ c
+
+-- ---- lists
+
+length-behind : (ps : List ℕ) (p : ℕ) → length (ps ++ p ∷ []) ≡ length ps + 1
+length-behind ps p = length-append ps (p ∷ [])
+
+-- the next position goes in behind those that were found
+put-behind : (ps list : List ℕ) (p k : ℕ) → length ps ≡ k → k < length list → set (written ps list) k p ≡ written (ps ++ p ∷ []) list
+put-behind ps list p k e h =
+    rw (length-behind ps p, e, drop-cons list k 0 h, set-at ps (getD list k 0) (drop (suc k) list) p k e, append-assoc, add-one)
+
+-- ---- the walk ends
+
+module _ (words : Bool) (text needle list : List ℕ) (c : Cursor) where
+  abbrev N : Cursor → Next
+  N = nextMatch words text needle
+
+  -- with these positions found, and then nothing more
+  ends : (ps : List ℕ) (k : ℕ) (list' : List ℕ) (last : Next) → length ps ≡ k → list' ≡ written ps list
+      → inFront ps (fillOf [] (cursorOf last) (endOf last)) ≡ fillFrom N (length list) c → (length list ≡ 1 → last ≡ N c)
+      → Walks N c list (record { count = k; last = last }) list'
+  ends ps k list' last size is e one =
+      let all = sym e ∙ ap (λ (l : List ℕ). fillOf l (cursorOf last) (endOf last)) (append-nil ps) in record {
+        answer = rw all (λ t. record { count = sym size t; cursor = cursorOf last; end = endOf last });
+        list-after = is ∙ ap (λ (f : Fill). written (f .positions) list) (sym all);
+        one = one;
+      }
+
+  -- it begins
+  pub going-start : refusal (length text) (length needle) c ≡ 0 → 0 < length list → Going words text needle list c c c 0 list
+  going-start a h = record {
+    found = [];
+    size = refl;
+    below = h;
+    list-is = refl;
+    rest = rw (sub-zero (length list));
+    accepted = a;
+    near = accepted-is (length text) (length needle) c a .position;
+    same = refl;
+    one = λ _. refl;
+  }
+
+-- ---- a turn
+
+-- from `from` and `at` on, with k positions found
+module _ {words : Bool} {text needle list : List ℕ} {c from at : Cursor} {k : ℕ} {list' : List ℕ} (g : Going words text needle list c from at k list') where
+  abbrev next : Cursor → Next
+  next = nextMatch words text needle
+
+  -- the list keeps its length
+  pub going-length : length list' ≡ length list
+  going-length =
+      ap length (g .list-is) ∙ length-append (g .found) (drop (length (g .found)) list) ∙ (rw (length-drop, g .size) (omega (arith, g .below)))
+
+  pub put-length : (p : ℕ) → length (set list' k p) ≡ length list
+  put-length p = length-set list' k p ∙ going-length
+
+  -- a step finds nothing
+  pub going-on : (r : Stepped) → Led words text needle at r → r .found ≡ false → Going words text needle list c from (r .cursor) k list'
+  going-on r led t = record {
+    found = g .found;
+    size = g .size;
+    below = g .below;
+    list-is = g .list-is;
+    rest = g .rest;
+    accepted = g .accepted;
+    near = omega (arith, led .near);
+    same = turn-on words text needle from at r led (g .same) t;
+    one = g .one;
+  }
+
+  -- the fill of the places left is one place and the others
+  places : length list - k ≡ suc (length list - (k + 1))
+  places = omega (arith, g .below)
+
+  -- no room is left for the needle
+  pub going-past : length text < at .position + length needle → (last : Next) → last ≡ ended from (nowhere (at .compares))
+      → Walks next c list (record { count = k; last = last }) list'
+  going-past past last e =
+      let is = ap (ended from) (sym (total-past words text needle at past) ∙ g .same) ∙ next-ended words text needle from (g .accepted) in
+      let rest = rw (places, ← is) at (g .rest) in
+      rw e (ends words text needle list c (g .found) k list' (ended from (nowhere (at .compares))) (g .size) (g .list-is) rest (λ h. is ∙ ap next (g .one h)))
+
+  -- a step finds the needle; the cursor after it is d
+  module _ (r : Stepped) (led : Led words text needle at r) (t : r .found ≡ true) where
+    abbrev p : ℕ
+    p = r .cursor .position
+
+    abbrev d : Cursor
+    d = moved from (p + 1) (r .cursor .compares) false
+
+    hit-is : Match p d ≡ next from
+    hit-is = turn-found words text needle from at r led (g .same) t ∙ next-ended words text needle from (g .accepted)
+
+    hit-rest : inFront (g .found ++ p ∷ []) (fillFrom next (length list - (k + 1)) d) ≡ fillFrom next (length list) c
+    hit-rest = rw append-assoc (rw (places, ← hit-is) at (g .rest))
+
+    hit-size : length (g .found ++ p ∷ []) ≡ k + 1
+    hit-size = length-behind (g .found) p ∙ ap (λ (n : ℕ). n + 1) (g .size)
+
+    hit-list : set list' k p ≡ written (g .found ++ p ∷ []) list
+    hit-list = ap (λ (l : List ℕ). set l k p) (g .list-is) ∙ put-behind (g .found) list p k (g .size) (g .below)
+
+    -- the list is full
+    pub hit-full : k + 1 ≡ length list → (last : Next) → last ≡ ended from (matchAt p (r .cursor .compares))
+        → Walks next c list (record { count = k + 1; last = last }) (set list' k p)
+    hit-full full last e =
+        let none : length list - (k + 1) ≡ 0 = omega arith in
+        rw e (ends words text needle list c (g .found ++ p ∷ []) (k + 1) (set list' k p) (Match p d) hit-size hit-list (rw none at hit-rest) (λ h. hit-is ∙ ap next (g .one h)))
+
+    -- there is a place left, and a is the cursor of the next match
+    module _ (more : k + 1 < length list) (a : Cursor) (is : a ≡ d) where
+      more-rest : inFront (g .found ++ p ∷ []) (fillFrom next (length list - (k + 1)) a) ≡ fillFrom next (length list) c
+      more-rest = rw is hit-rest
+
+      -- it is accepted
+      pub hit-on : refusal (length text) (length needle) a ≡ 0 → Going words text needle list c a a (k + 1) (set list' k p)
+      hit-on z = record {
+        found = g .found ++ p ∷ [];
+        size = hit-size;
+        below = more;
+        list-is = hit-list;
+        rest = more-rest;
+        accepted = z;
+        near = accepted-is (length text) (length needle) a z .position;
+        same = refl;
+        one = λ h. absurd (omega arith);
+      }
+
+      -- it is refused
+      pub hit-stopped : (number : ℕ) → refusal (length text) (length needle) a ≡ number → 0 < number
+          → Walks next c list (record { count = k + 1; last = Refused number a }) (set list' k p)
+      hit-stopped number e h =
+          let left : length list - (k + 1) ≡ suc (length list - (k + 2)) = omega arith in
+          ends words text needle list c (g .found ++ p ∷ []) (k + 1) (set list' k p) (Refused number a) hit-size hit-list
+          (rw (left, next-refused words text needle a number e h) at more-rest)
+          (λ w. absurd (omega arith))
+
+-- ---- the call
+
+module _ (words : Bool) (text needle : List ℕ) (c : Cursor) where
+  -- nothing is written where the fill has no position
+  pub unwritten : (k : ℕ) (e : End) (list : List ℕ) (r : Filled) → fill words text needle k c ≡ fillOf [] c e → r ≡ answerOf (fillOf [] c e) → FillGiven (fill words text needle k c) list r list
+  unwritten k e list r is h = rw (is, h) (record { answer = refl; list-after = refl })
+
+  -- a refused call
+  pub fill-refused : (k number : ℕ) → refusal (length text) (length needle) c ≡ number → 0 < number → fill words text needle k c ≡ fillOf [] c (Stopped number)
+  unfolding fill
+  fill-refused zero zero e h = absurd (omega arith)
+  fill-refused zero (suc number) e h = rw e
+  fill-refused (suc k) number e h = rw (next-refused words text needle c number e h)
+
+  -- an empty list and a good cursor
+  pub fill-empty : (k : ℕ) → k ≡ 0 → refusal (length text) (length needle) c ≡ 0 → fill words text needle k c ≡ fillOf [] c Full
+  unfolding fill
+  fill-empty zero z e = rw e
+  fill-empty (suc k) z e = absurd (omega arith)
+
+  -- a list with places is walked for
+  pub walked : (list : List ℕ) (w : Walked) (list' : List ℕ) (r : Filled) → 0 < length list → Walks (nextMatch words text needle) c list w list' → r ≡ filledBy (w .count) (w .last)
+      → FillGiven (fill words text needle (length list) c) list r list'
+  unfolding fill
+  walked list w list' r h walks e =
+      let is = fill-is (length list) h in record {
+        answer = e ∙ walks .answer ∙ ap answerOf is;
+        list-after = walks .list-after ∙ ap (λ (f : Fill). written (f .positions) list) is;
+      }
+    where
+      fill-is : (k : ℕ) → 0 < k → fillFrom (nextMatch words text needle) k c ≡ fill words text needle k c
+      fill-is zero g = absurd (omega arith)
+      fill-is (suc k) g = refl
