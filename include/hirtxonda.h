@@ -8,18 +8,20 @@
  *
  * What is the same for all calls:
  *
- * - An accepted call returns 0. A search has one more answer: HX_ABSENT, 256, says that there is no
- *   more match. That call is accepted too.
+ * - An accepted call returns 0. Only a search has other answers: HX_ABSENT, 256, says that there is
+ *   no more match, and HX_FULL, 257, that the list of a fill is full. A fill never returns 0.
  * - A refused call returns the number of the refusal, one of HX_.._REFUSED below
  *   (docs/REFUSALS.md). It writes nothing: what stood behind each pointer still stands there.
  *   Where several numbers apply, it returns the lowest; only hx_report tests 7, 6, 3.
+ * - A fill alone may return one of them and yet have written: HX_COMPARES_REFUSED, 23, can stop it
+ *   after some matches. It is not refused then; by *count a caller sees which it was.
  * - Six functions refuse nothing and return no such number: hx_pcmpestri_0c and its three siblings
  *   return an index, hx_cursor_fresh and hx_refusal_line return nothing.
  * - The caller owns all memory. The library keeps no pointer after a call, and frees nothing.
  * - A pointer must not be null, also where its length is 0, and must be aligned for its type. A
- *   length is in elements: bytes, or words of 16 bits.
- * - What is written (cursor, index, flags, mask, buffer, page, ..) must overlap nothing else that
- *   the call is handed.
+ *   length is in elements: bytes, words of 16 bits, or positions of 64.
+ * - What is written (cursor, index, flags, mask, positions, buffer, page, ..) must overlap nothing
+ *   else that the call is handed.
  * - Every value is allowed for every number, and every byte in every buffer: each is answered or
  *   refused. A length above its limit is refused before any element is read. Any other length must
  *   be true: then nothing is read or written outside the buffers.
@@ -118,6 +120,8 @@ uint32_t hx_pcmpestri_19(const uint8_t operand1[16], size_t length1, const uint8
 
 /* ---- the search ----
  *
+ * One match a call:
+ *
  *     hx_cursor cursor;
  *     uint64_t position;
  *     uint32_t status;
@@ -127,9 +131,24 @@ uint32_t hx_pcmpestri_19(const uint8_t operand1[16], size_t length1, const uint8
  *     if (status != HX_ABSENT)
  *         printf("refused with number %" PRIu32 "\n", status);
  *
+ * The same in lists of up to 256 matches, each by one call, a fill:
+ *
+ *     uint64_t positions[256];
+ *     size_t count;
+ *     hx_cursor_fresh(&cursor);
+ *     do {
+ *         count = 0; // a refused call leaves it as it is
+ *         status = hx_fill_in_bytes(&cursor, text, n, needle, m, positions, 256, &count);
+ *         for (size_t i = 0; i < count; i++)
+ *             printf("%" PRIu64 "\n", positions[i]);
+ *     } while (status == HX_FULL);
+ *     if (status != HX_ABSENT)
+ *         printf("refused or stopped with number %" PRIu32 "\n", status);
+ *
  * A list of calls over one text and needle gives every position where the needle stands, the least
  * first, none skipped or repeated, then HX_ABSENT once, then HX_EXHAUSTED_REFUSED. An empty needle
- * stands at 0 up to the text's length.
+ * stands at 0 up to the text's length. Next matches and fills of any size may be mixed, each with
+ * the cursor of the last: they give the same positions in the same order.
  */
 
 /* Where a list of calls has got to. Any numbers may stand here; each cursor is answered or
@@ -142,6 +161,7 @@ typedef struct hx_cursor {
 
 #define HX_MATCH 0u
 #define HX_ABSENT 256u /* above every refusal's number */
+#define HX_FULL 257u   /* the list of a fill is full */
 
 /* Writes the cursor of a first call: 0, 0, 0. It refuses nothing. */
 void hx_cursor_fresh(hx_cursor *cursor);
@@ -156,6 +176,30 @@ uint32_t hx_next_in_bytes(hx_cursor *cursor, const uint8_t *text, size_t text_le
                           const uint8_t *needle, size_t needle_length, uint64_t *position);
 uint32_t hx_next_in_words(hx_cursor *cursor, const uint16_t *text, size_t text_length,
                           const uint16_t *needle, size_t needle_length, uint64_t *position);
+
+/* A fill: next match repeated until the list is full or a call gives no match, and nothing else.
+ * The positions found stand at the front of the list, in their order; the rest of the list stays as
+ * it was, whatever is returned. There is room for positions_length of them, which has no limit.
+ * What a next match is refused for is tested before each match, and once where the list is empty.
+ * They return
+ *   HX_FULL: the list is full; *count is positions_length. It is returned as soon as the last place
+ *     is filled, with no further test or compare: there may be more matches or none. An empty list
+ *     is full at once: *count is 0, and the cursor stays;
+ *   HX_ABSENT: there is no more match; *count were found, perhaps 0. The cursor is exhausted; its
+ *     position is the one after the last of them, or stays where there is none;
+ *   HX_COMPARES_REFUSED after some matches: stopped, as the cursor has too many compares by then.
+ *     *count were found, and *cursor is the one after them;
+ *   a refusal, before the first match: HX_TEXT_REFUSED, HX_NEEDLE_REFUSED, HX_EXHAUSTED_REFUSED,
+ *     HX_POSITION_REFUSED or HX_COMPARES_REFUSED; all of *cursor, *count and the list stay.
+ * So HX_COMPARES_REFUSED is a stop or a refusal. Set *count to 0 before the call: stopped, it is
+ * above 0 after it; refused, it still is 0. Calls over one text and needle that began with a fresh
+ * cursor never come to so many compares. */
+uint32_t hx_fill_in_bytes(hx_cursor *cursor, const uint8_t *text, size_t text_length,
+                          const uint8_t *needle, size_t needle_length, uint64_t *positions,
+                          size_t positions_length, size_t *count);
+uint32_t hx_fill_in_words(hx_cursor *cursor, const uint16_t *text, size_t text_length,
+                          const uint16_t *needle, size_t needle_length, uint64_t *positions,
+                          size_t positions_length, size_t *count);
 
 /* ---- leading runs ----
  *
