@@ -45,7 +45,7 @@ pub mod silicon;
 
 pub use refusal::Refusal;
 pub use report::{refusal_line, report, report_into, right_justified, LONGEST_INPUT, LONGEST_REPORT, WIDEST_COLUMN};
-pub use search::{matches, Cursor, Matches, Next, LONGEST_NEEDLE, MOST_COMPARES};
+pub use search::{matches, Cursor, End, Filled, Matches, Next, LONGEST_NEEDLE, MOST_COMPARES};
 pub use text::{compare, lesser, range_span, span, Element, Signedness, LONGEST_TEXT};
 pub use unit::{
     pcmpestri, pcmpestri_0c, pcmpestri_0d, pcmpestri_18, pcmpestri_19, pcmpestrm, pcmpistri, pcmpistrm, Flags,

@@ -75,8 +75,13 @@ impl Refusal {
     pub(crate) fn check(number: u32) -> Result<(), Refusal> {
         match number {
             0 => Ok(()),
-            _ => Err(Refusal::from_number(number).expect("the library gives listed numbers")),
+            _ => Err(Refusal::listed(number)),
         }
+    }
+
+    /// The refusal by a number that the library gave.
+    pub(crate) fn listed(number: u32) -> Refusal {
+        Refusal::from_number(number).expect("the library gives listed numbers")
     }
 }
 

@@ -1,5 +1,7 @@
-//! The search: a cursor that goes from match to match, and an iterator over it.
+//! The search: a cursor that goes from match to match or fills lists of them, and an iterator over
+//! it.
 
+use std::fmt;
 use std::iter::FusedIterator;
 
 use crate::{raw, Element, Refusal, LONGEST_TEXT};
@@ -68,6 +70,55 @@ pub enum Next {
     },
 }
 
+/// The answer of [`Cursor::fill`], with the cursor to go on with.
+///
+/// ```
+/// use hirtxonda::{Cursor, End, Filled};
+///
+/// let cursor = Cursor { position: 4, compares: 3, exhausted: true };
+/// let filled = Cursor::fresh().fill(b"ABZAB", b"AB", &mut [0; 8]);
+/// assert_eq!(filled, Ok(Filled { count: 2, cursor, end: End::Absent }));
+/// ```
+#[derive(Clone, Copy, Debug, PartialEq, Eq, Hash)]
+pub struct Filled {
+    /// How many positions were put at the front of the list.
+    pub count: usize,
+    /// The cursor to go on with.
+    pub cursor: Cursor,
+    /// Why there are no more of them.
+    pub end: End,
+}
+
+/// Why a fill ended.
+///
+/// ```
+/// use hirtxonda::{Cursor, End, Refusal, MOST_COMPARES};
+///
+/// let mut list = [0; 2];
+/// let mut end = |cursor: Cursor, needle| Ok(cursor.fill(b"ABZAB", needle, &mut list)?.end);
+/// assert_eq!(end(Cursor::fresh(), b"A"), Ok(End::Full));
+/// assert_eq!(end(Cursor::fresh(), b"Z"), Ok(End::Absent));
+///
+/// // The compare of the first match is one too many for a second.
+/// let cursor = Cursor { compares: MOST_COMPARES, ..Cursor::fresh() };
+/// assert_eq!(end(cursor, b"A"), Ok(End::Stopped(Refusal::Compares)));
+///
+/// // One too many before the first match: that is no end, the fill is refused.
+/// let cursor = Cursor { compares: MOST_COMPARES + 1, ..Cursor::fresh() };
+/// assert_eq!(end(cursor, b"A"), Err(Refusal::Compares));
+/// ```
+#[derive(Clone, Copy, Debug, PartialEq, Eq, Hash)]
+pub enum End {
+    /// The list is full. Whether there is one more match has not been looked at.
+    Full,
+    /// There is no more match; the cursor is exhausted.
+    Absent,
+    /// After some matches the next was refused, always by [`Refusal::Compares`]: the cursor has
+    /// more than [`MOST_COMPARES`] by then. Over one text and needle, no search that began with a
+    /// fresh cursor comes to that.
+    Stopped(Refusal),
+}
+
 impl Cursor {
     /// The cursor of a first call: 0, 0, not exhausted.
     ///
@@ -100,18 +151,72 @@ impl Cursor {
     /// [`Refusal::Text`], [`Refusal::Needle`], [`Refusal::Exhausted`], [`Refusal::Position`],
     /// [`Refusal::Compares`].
     pub fn next<E: Element>(self, text: &[E], needle: &[E]) -> Result<Next, Refusal> {
-        let mut after =
-            raw::Cursor { position: self.position, compares: self.compares, exhausted: u64::from(self.exhausted) };
+        let mut after = self.to_raw();
         let mut position = 0;
         // SAFETY: two slices with their lengths, and two locals that are written.
         let number =
             unsafe { E::NEXT(&mut after, text.as_ptr(), text.len(), needle.as_ptr(), needle.len(), &mut position) };
-        let cursor = Cursor { position: after.position, compares: after.compares, exhausted: after.exhausted != 0 };
+        let cursor = Cursor::from_raw(after);
         if number == raw::ABSENT {
             return Ok(Next::Absent { cursor });
         }
         Refusal::check(number)?;
         Ok(Next::Match { position: position as usize, cursor })
+    }
+
+    /// Puts the positions of the next matches into a list: [`Cursor::next`] repeated until the list
+    /// is full or a call gives no match. They stand at its front, the least first; the rest of it
+    /// stays as it was. An empty list is full at once, where the call is not refused.
+    ///
+    /// ```
+    /// use hirtxonda::{Cursor, End, Refusal};
+    ///
+    /// let mut cursor = Cursor::fresh();
+    /// let mut list = [0; 256];
+    /// let mut positions = Vec::new();
+    /// loop {
+    ///     let filled = cursor.fill(b"ABZAB", b"AB", &mut list)?;
+    ///     positions.extend_from_slice(&list[..filled.count]);
+    ///     match filled.end {
+    ///         End::Full => cursor = filled.cursor,
+    ///         End::Absent => break,
+    ///         End::Stopped(refusal) => return Err(refusal),
+    ///     }
+    /// }
+    /// assert_eq!(positions, [0, 3]);
+    /// # Ok::<(), Refusal>(())
+    /// ```
+    ///
+    /// # Errors
+    ///
+    /// [`Refusal::Text`], [`Refusal::Needle`], [`Refusal::Exhausted`], [`Refusal::Position`],
+    /// [`Refusal::Compares`], each before the first match; the whole list is as it was. A refusal
+    /// after it is no error but an [`End`], since some positions were found.
+    pub fn fill<E: Element>(self, text: &[E], needle: &[E], positions: &mut [u64]) -> Result<Filled, Refusal> {
+        let mut after = self.to_raw();
+        let mut count = 0;
+        // SAFETY: three slices with their lengths, one of them lent alone, and two locals that are
+        // written.
+        let number = unsafe {
+            let (list, length) = (positions.as_mut_ptr(), positions.len());
+            E::FILL(&mut after, text.as_ptr(), text.len(), needle.as_ptr(), needle.len(), list, length, &mut count)
+        };
+        let end = match number {
+            raw::FULL => End::Full,
+            raw::ABSENT => End::Absent,
+            // Refused, the call has left `count` as it was; stopped, it has found a match at least.
+            _ if count == 0 => return Err(Refusal::listed(number)),
+            _ => End::Stopped(Refusal::listed(number)),
+        };
+        Ok(Filled { count, cursor: Cursor::from_raw(after), end })
+    }
+
+    fn to_raw(self) -> raw::Cursor {
+        raw::Cursor { position: self.position, compares: self.compares, exhausted: u64::from(self.exhausted) }
+    }
+
+    fn from_raw(cursor: raw::Cursor) -> Cursor {
+        Cursor { position: cursor.position, compares: cursor.compares, exhausted: cursor.exhausted != 0 }
     }
 }
 
@@ -127,13 +232,22 @@ impl Cursor {
 ///
 /// [`Refusal::Text`], [`Refusal::Needle`]. The iterator itself meets no refusal.
 pub fn matches<'a, E: Element>(text: &'a [E], needle: &'a [E]) -> Result<Matches<'a, E>, Refusal> {
-    Matches::new(text, needle, Cursor::next)
+    Matches::new(text, needle, Cursor::fill)
 }
 
-/// [`Cursor::next`], or the same by the instructions.
-type NextCall<E> = fn(Cursor, &[E], &[E]) -> Result<Next, Refusal>;
+/// [`Cursor::fill`], or the same by the instructions.
+type FillCall<E> = fn(Cursor, &[E], &[E], &mut [u64]) -> Result<Filled, Refusal>;
+
+/// The most positions of a list of the iterator's. Longer ones were a few hundredths faster, and
+/// are more to hold and to clone.
+const LONGEST_LIST: usize = 64;
 
 /// The iterator that [`matches()`] gives.
+///
+/// It takes the positions in lists, as [`Cursor::fill`] does, and gives them one by one. The first
+/// list has one position, and each later one twice as many as the last, up to 64. So it looks no
+/// further than the first match before it is asked for the second, and later is never ahead by as
+/// many matches as it has given.
 ///
 /// ```
 /// let mut matches = hirtxonda::matches(b"ABZAB", b"AB")?;
@@ -142,30 +256,62 @@ type NextCall<E> = fn(Cursor, &[E], &[E]) -> Result<Next, Refusal>;
 /// assert_eq!(matches.next(), None);
 /// # Ok::<(), hirtxonda::Refusal>(())
 /// ```
-#[derive(Clone, Debug)]
+#[derive(Clone)]
 pub struct Matches<'a, E: Element> {
     text: &'a [E],
     needle: &'a [E],
+    fill: FillCall<E>,
+    /// After the last list.
     cursor: Cursor,
-    next: NextCall<E>,
+    /// The last list, with `found` positions, of which `given` were given.
+    list: [u64; LONGEST_LIST],
+    found: usize,
+    given: usize,
+    /// The length of the next list. It begins with 1: many callers want the first match alone, and
+    /// the walk to the second may be one through the whole text.
+    wanted: usize,
 }
 
 impl<'a, E: Element> Matches<'a, E> {
-    pub(crate) fn new(text: &'a [E], needle: &'a [E], next: NextCall<E>) -> Result<Matches<'a, E>, Refusal> {
+    pub(crate) fn new(text: &'a [E], needle: &'a [E], fill: FillCall<E>) -> Result<Matches<'a, E>, Refusal> {
         accept_lengths(text, needle)?;
-        Ok(Matches { text, needle, cursor: Cursor::fresh(), next })
+        let cursor = Cursor::fresh();
+        Ok(Matches { text, needle, fill, cursor, list: [0; LONGEST_LIST], found: 0, given: 0, wanted: 1 })
     }
 
-    /// The compares of all calls so far.
+    /// The compares of all lists so far, and so also those for positions that are found and not yet
+    /// given. After the first position they are those of the first match, and once the iterator has
+    /// ended those of the whole search; in between they may be ahead.
     ///
     /// ```
     /// let mut matches = hirtxonda::matches(b"ABZAB", b"AB")?;
-    /// assert_eq!(matches.by_ref().count(), 2);
+    /// assert_eq!(matches.compares(), 0);
+    /// assert_eq!(matches.next(), Some(0));
+    /// assert_eq!(matches.compares(), 1);
+    /// assert_eq!(matches.by_ref().count(), 1);
     /// assert_eq!(matches.compares(), 3);
     /// # Ok::<(), hirtxonda::Refusal>(())
     /// ```
     pub fn compares(&self) -> u64 {
         self.cursor.compares
+    }
+
+    /// Takes the next list, which is empty where there is no more match.
+    fn refill(&mut self) {
+        (self.found, self.given) = (0, 0);
+        if self.cursor.exhausted {
+            return;
+        }
+        match (self.fill)(self.cursor, self.text, self.needle, &mut self.list[..self.wanted]) {
+            Ok(filled) => (self.cursor, self.found) = (filled.cursor, filled.count),
+            Err(refusal) => unreachable!("the lengths were accepted: {refusal}"),
+        }
+        self.wanted = LONGEST_LIST.min(2 * self.wanted);
+    }
+
+    /// What is found and not yet given.
+    fn ahead(&self) -> &[u64] {
+        &self.list[self.given..self.found]
     }
 }
 
@@ -173,20 +319,27 @@ impl<E: Element> Iterator for Matches<'_, E> {
     type Item = usize;
 
     fn next(&mut self) -> Option<usize> {
-        if self.cursor.exhausted {
-            return None;
+        if self.ahead().is_empty() {
+            self.refill();
         }
-        let (position, cursor) = match (self.next)(self.cursor, self.text, self.needle) {
-            Ok(Next::Match { position, cursor }) => (Some(position), cursor),
-            Ok(Next::Absent { cursor }) => (None, cursor),
-            Err(refusal) => unreachable!("the lengths were accepted: {refusal}"),
-        };
-        self.cursor = cursor;
-        position
+        let position = *self.ahead().first()?;
+        self.given += 1;
+        Some(position as usize)
     }
 }
 
 impl<E: Element> FusedIterator for Matches<'_, E> {}
+
+impl<E: Element + fmt::Debug> fmt::Debug for Matches<'_, E> {
+    fn fmt(&self, f: &mut fmt::Formatter<'_>) -> fmt::Result {
+        f.debug_struct("Matches")
+            .field("text", &self.text)
+            .field("needle", &self.needle)
+            .field("cursor", &self.cursor)
+            .field("ahead", &self.ahead())
+            .finish_non_exhaustive()
+    }
+}
 
 /// Refuses a text or a needle that is too long.
 pub(crate) fn accept_lengths<E>(text: &[E], needle: &[E]) -> Result<(), Refusal> {

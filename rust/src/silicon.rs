@@ -23,7 +23,7 @@ use std::arch::x86_64::{__m128i, _mm_cmpestri, _mm_loadu_si128};
 use std::mem::size_of_val;
 
 use crate::search::accept_lengths;
-use crate::{Cursor, Element, Flags, IndexAnswer, MaskAnswer, Matches, Next, Refusal, MOST_COMPARES};
+use crate::{Cursor, Element, End, Filled, Flags, IndexAnswer, MaskAnswer, Matches, Next, Refusal, MOST_COMPARES};
 
 /// Whether the processor has the instructions.
 ///
@@ -187,18 +187,39 @@ calls! {
 /// ```
 pub fn next<E: Element>(cursor: Cursor, text: &[E], needle: &[E]) -> Result<Next, Refusal> {
     demand();
-    accept_lengths(text, needle)?;
-    if cursor.exhausted {
-        return Err(Refusal::Exhausted);
-    }
-    if cursor.position > text.len() as u64 + 1 {
-        return Err(Refusal::Position);
-    }
-    if cursor.compares > MOST_COMPARES {
-        return Err(Refusal::Compares);
-    }
+    accept(cursor, text, needle)?;
     // SAFETY: the processor has the instructions.
     Ok(unsafe { walk(cursor, text, needle) })
+}
+
+/// [`Cursor::fill`] by the instructions: [`next`] repeated.
+///
+/// ```
+/// use hirtxonda::{silicon, Cursor};
+///
+/// if silicon::available() {
+///     let (cursor, mut real, mut proved) = (Cursor::fresh(), [0; 8], [0; 8]);
+///     let by_instructions = silicon::fill(cursor, b"ABZAB", b"AB", &mut real);
+///     assert_eq!(by_instructions, cursor.fill(b"ABZAB", b"AB", &mut proved));
+///     assert_eq!(real, proved);
+/// }
+/// ```
+pub fn fill<E: Element>(
+    mut cursor: Cursor,
+    text: &[E],
+    needle: &[E],
+    positions: &mut [u64],
+) -> Result<Filled, Refusal> {
+    demand();
+    accept(cursor, text, needle)?;
+    for (count, place) in positions.iter_mut().enumerate() {
+        match next(cursor, text, needle) {
+            Ok(Next::Match { position, cursor: following }) => (*place, cursor) = (position as u64, following),
+            Ok(Next::Absent { cursor }) => return Ok(Filled { count, cursor, end: End::Absent }),
+            Err(refusal) => return Ok(Filled { count, cursor, end: End::Stopped(refusal) }),
+        }
+    }
+    Ok(Filled { count: positions.len(), cursor, end: End::Full })
 }
 
 /// [`matches`](crate::matches) by the instructions.
@@ -215,7 +236,22 @@ pub fn next<E: Element>(cursor: Cursor, text: &[E], needle: &[E]) -> Result<Next
 /// ```
 pub fn matches<'a, E: Element>(text: &'a [E], needle: &'a [E]) -> Result<Matches<'a, E>, Refusal> {
     demand();
-    Matches::new(text, needle, next)
+    Matches::new(text, needle, fill)
+}
+
+/// Refuses what the search refuses, by the lowest number.
+fn accept<E>(cursor: Cursor, text: &[E], needle: &[E]) -> Result<(), Refusal> {
+    accept_lengths(text, needle)?;
+    if cursor.exhausted {
+        return Err(Refusal::Exhausted);
+    }
+    if cursor.position > text.len() as u64 + 1 {
+        return Err(Refusal::Position);
+    }
+    if cursor.compares > MOST_COMPARES {
+        return Err(Refusal::Compares);
+    }
+    Ok(())
 }
 
 #[target_feature(enable = "sse4.2")]

@@ -65,6 +65,7 @@ fn header() {
     assert_eq!(defined("LONGEST_INPUT"), hirtxonda::LONGEST_INPUT);
     assert_eq!(defined("LONGEST_REPORT"), hirtxonda::LONGEST_REPORT);
     assert_eq!(defined("ABSENT"), ABSENT as usize);
+    assert_eq!(defined("FULL"), FULL as usize);
     assert_eq!(defined("MATCH"), 0);
 }
 
@@ -135,6 +136,90 @@ fn next_in_words() {
     next::<u16>();
 }
 
+/// What a fill is given to write: the cursor, the count, and a list with places behind it.
+#[derive(Clone, Copy, Debug, PartialEq)]
+struct Places {
+    cursor: raw::Cursor,
+    count: usize,
+    list: [u64; 8],
+}
+
+impl Places {
+    fn with(cursor: raw::Cursor) -> Places {
+        Places { cursor, count: SENTINEL as usize, list: [SENTINEL; 8] }
+    }
+
+    /// With what a fill wrote: so many positions from 0 on, and the cursor.
+    fn filled(mut self, count: usize, cursor: raw::Cursor) -> Places {
+        (self.cursor, self.count) = (cursor, count);
+        self.list.iter_mut().zip(0..count as u64).for_each(|(place, position)| *place = position);
+        self
+    }
+}
+
+/// A fill of the first places of the list, so many of them.
+fn fill<E: Calls>(
+    places: Places,
+    (text, n): (&[E], usize),
+    (needle, m): (&[E], usize),
+    length: usize,
+) -> (u32, Places) {
+    // SAFETY: see `controls`. The list has that many places and more.
+    with_sentinel(places, |p| unsafe {
+        let (cursor, list, count) = (&raw mut (*p).cursor, &raw mut (*p).list, &raw mut (*p).count);
+        E::FILL(cursor, text.as_ptr(), n, needle.as_ptr(), m, list.cast(), length, count)
+    })
+}
+
+/// The same sets of conditions for a fill, with an empty list and with others. Where none holds, it
+/// is full or absent, and the count is written: 0.
+fn fills<E: Calls + Clone + Default>() {
+    let text = vec![E::default(); LONGEST_TEXT + 1];
+    let needle = vec![E::default(); LONGEST_NEEDLE + 1];
+    for (conditions, length) in (0..32usize).flat_map(|conditions| [0, 1, 5].map(|length| (conditions, length))) {
+        let past = |condition: u32| conditions >> condition & 1;
+        let (n, m) = (LONGEST_TEXT + past(0), LONGEST_NEEDLE + past(1));
+        let (position, compares) = (n as u64 + 1 + past(3) as u64, MOST_COMPARES + past(4) as u64);
+        for exhausted in if past(2) == 1 { &[1, 2, 256, 1 << 32, u64::MAX][..] } else { &[0] } {
+            let cursor = raw::Cursor { position, compares, exhausted: *exhausted };
+            let before = Places::with(cursor);
+            let expected = match search_refusal(n, m, Cursor { position, compares, exhausted: past(2) == 1 }) {
+                Some(refusal) => (refusal.number(), before),
+                None if length == 0 => (FULL, before.filled(0, cursor)),
+                None => (ABSENT, before.filled(0, raw::Cursor { exhausted: 1, ..cursor })),
+            };
+            let given = fill(before, (&text, n), (&needle, m), length);
+            assert_eq!(given, expected, "conditions {conditions:05b}, list of {length}");
+        }
+    }
+}
+
+/// Five matches of one compare each. Number 23 refuses a fill before the first of them, and then
+/// nothing is written; after some it stops it, and then these are. A list that is full by then is
+/// full.
+fn stopped_fills<E: Calls + Clone + Default>() {
+    let text = vec![E::default(); 5];
+    for left in -2i64..8 {
+        for length in 0..=8 {
+            let compares = MOST_COMPARES.wrapping_add_signed(-left);
+            let before = Places::with(raw::Cursor { position: 0, compares, exhausted: 0 });
+            let after = |count: usize, exhausted| {
+                let cursor = raw::Cursor { position: count as u64, compares: compares + count as u64, exhausted };
+                before.filled(count, cursor)
+            };
+            let accepted = (left + 1).max(0) as usize;
+            let expected = match () {
+                _ if accepted == 0 => (23, before),
+                _ if length <= accepted.min(5) => (FULL, after(length, 0)),
+                _ if accepted <= 5 => (23, after(accepted, 0)),
+                _ => (ABSENT, after(5, 1)),
+            };
+            let given = fill(before, (&text, 5), (&text, 1), length);
+            assert_eq!(given, expected, "{left} compares left, list of {length}");
+        }
+    }
+}
+
 /// Cursors that no list of calls gives, on short texts. Any number but 0 is exhausted; a refused
 /// cursor stays as it was.
 fn made_up_cursors<E: Calls + Clone + Default>() {
@@ -150,6 +235,17 @@ fn made_up_cursors<E: Calls + Clone + Default>() {
                 Some(refusal) => assert_eq!((number, after, place), (refusal.number(), cursor, SENTINEL)),
                 None => assert!(number == 0 || number == ABSENT, "{cursor:?}, n = {n}, m = {m}: {number}"),
             }
+            for length in [0, 1, 5] {
+                let before = Places::with(cursor);
+                let (number, after) = fill(before, (&needle, n), (&needle, m), length);
+                match search_refusal(n, m, Cursor { position, compares, exhausted: exhausted != 0 }) {
+                    Some(refusal) => assert_eq!((number, after), (refusal.number(), before)),
+                    None => {
+                        assert!([FULL, ABSENT, 23].contains(&number), "{cursor:?}, n = {n}, m = {m}: {number}");
+                        assert!(after.count <= length, "{cursor:?}, n = {n}, m = {m}: {after:?}");
+                    }
+                }
+            }
         }
     }
 }
@@ -163,6 +259,8 @@ fn some_cursors(n: u64) -> Vec<raw::Cursor> {
 }
 
 in_both_widths! {
+    fills
+    stopped_fills
     made_up_cursors
 }
 
@@ -258,6 +356,9 @@ fn refused_lengths_are_not_read() {
                 hx_next_in_words(&mut (*p).0, word.as_ptr(), 1, word.as_ptr(), huge, &mut (*p).1)
             };
             assert_eq!(written((cursor, SENTINEL), next).0, 3);
+            let before = Places::with(cursor);
+            assert_eq!(fill(before, (&byte, huge), (&byte, 1), 5), (2, before));
+            assert_eq!(fill(before, (&word, 1), (&word, huge), 5), (3, before));
             assert_eq!(written(7, |p| hx_span_in_bytes(byte.as_ptr(), huge, byte.as_ptr(), 1, p)).0, 2);
             assert_eq!(written(7, |p| hx_span_in_words(word.as_ptr(), 1, word.as_ptr(), huge, p)).0, 4);
             assert_eq!(written(7, |p| hx_range_span_in_bytes(byte.as_ptr(), 1, byte.as_ptr(), huge, 1, p)).0, 4);

@@ -3,47 +3,9 @@
 
 mod common;
 
-use common::search::{check_call, check_list, on_silicon};
+use common::search::{check_call, check_list, needle_for, on_silicon, plant};
 use common::{positions, silicon_available, text, Letter, Random, ALPHABETS};
 use hirtxonda::{matches, Cursor, Next, Refusal, LONGEST_NEEDLE, LONGEST_TEXT, MOST_COMPARES};
-
-/// A needle of m elements: drawn alone, or a part of the text, perhaps with one bit of one element
-/// changed.
-fn needle_for<E: Letter>(random: &mut Random, text: &[E], alphabet: usize, m: usize) -> Vec<E> {
-    let mut needle = common::text(random, alphabet, m);
-    if m > 0 && m <= text.len() && !random.one_in(4) {
-        let at = random.below(text.len() - m + 1);
-        needle.copy_from_slice(&text[at..at + m]);
-        if random.one_in(3) {
-            flip(random, &mut needle);
-        }
-    }
-    needle
-}
-
-/// Another value for one element, alike in all bits but one.
-fn flip<E: Letter>(random: &mut Random, part: &mut [E]) {
-    let element = random.pick(&(0..part.len()).collect::<Vec<_>>());
-    let bits = 1u64 << random.below(8 * std::mem::size_of::<E>());
-    part[element] = E::cut(part[element].unsigned() as u64 ^ bits);
-}
-
-/// Copies of the needle in the text, some with a flaw in one element; half of these flaws stand
-/// after the first piece, so that later pieces are compared.
-fn plant<E: Letter>(random: &mut Random, text: &mut [E], needle: &[E]) {
-    if needle.is_empty() || needle.len() > text.len() {
-        return;
-    }
-    for _ in 0..random.below(4) {
-        let at = random.below(text.len() - needle.len() + 1);
-        let place = &mut text[at..at + needle.len()];
-        place.copy_from_slice(needle);
-        if random.one_in(2) {
-            let from = if random.one_in(2) { 0 } else { (place.len() - 1).min(E::BLOCK) };
-            flip(random, &mut place[from..]);
-        }
-    }
-}
 
 fn lists<E: Letter>(test: &str, count: usize, longest_text: usize, longest_needle: usize) {
     let mut random = Random::for_test(test);

@@ -1,9 +1,47 @@
-//! A call of the search and a list of calls, held to the same walk on the processor's instructions
-//! and to brute force.
+//! Texts and needles to search; a call of the search and a list of calls, held to the same walk on
+//! the processor's instructions and to brute force.
 
 use hirtxonda::{matches, Cursor, Next, Refusal};
 
-use super::{positions, search_refusal, stands, walk_compares, Letter};
+use super::{positions, search_refusal, stands, walk_compares, Letter, Random};
+
+/// A needle of m elements: drawn alone, or a part of the text, perhaps with one bit of one element
+/// changed.
+pub fn needle_for<E: Letter>(random: &mut Random, text: &[E], alphabet: usize, m: usize) -> Vec<E> {
+    let mut needle = super::text(random, alphabet, m);
+    if m > 0 && m <= text.len() && !random.one_in(4) {
+        let at = random.below(text.len() - m + 1);
+        needle.copy_from_slice(&text[at..at + m]);
+        if random.one_in(3) {
+            flip(random, &mut needle);
+        }
+    }
+    needle
+}
+
+/// Another value for one element, alike in all bits but one.
+fn flip<E: Letter>(random: &mut Random, part: &mut [E]) {
+    let element = random.pick(&(0..part.len()).collect::<Vec<_>>());
+    let bits = 1u64 << random.below(8 * std::mem::size_of::<E>());
+    part[element] = E::cut(part[element].unsigned() as u64 ^ bits);
+}
+
+/// Copies of the needle in the text, some with a flaw in one element; half of these flaws stand
+/// after the first piece, so that later pieces are compared.
+pub fn plant<E: Letter>(random: &mut Random, text: &mut [E], needle: &[E]) {
+    if needle.is_empty() || needle.len() > text.len() {
+        return;
+    }
+    for _ in 0..random.below(4) {
+        let at = random.below(text.len() - needle.len() + 1);
+        let place = &mut text[at..at + needle.len()];
+        place.copy_from_slice(needle);
+        if random.one_in(2) {
+            let from = if random.one_in(2) { 0 } else { (place.len() - 1).min(E::BLOCK) };
+            flip(random, &mut place[from..]);
+        }
+    }
+}
 
 /// What a call must answer, by comparing elements one by one.
 pub fn expected<E: Letter>(cursor: Cursor, text: &[E], needle: &[E]) -> Result<Next, Refusal> {
