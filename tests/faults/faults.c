@@ -4,7 +4,8 @@
  * Each buffer, operand, cursor and out-number of a call lies in an arena of its own between two
  * guard pages, mostly right before the one or right behind the other, so that a read or write of
  * one byte outside traps. What is expected of a call (refusal, what is written, what stays) is
- * written here from the header's rules alone.
+ * written here from the header's rules alone, but for the compares of a search, which are those of
+ * the walk in docs/SCOPE.md.
  *
  *   faults [--calls N] [--seed N]   the run: a line of figures, status 0 where nothing was wrong
  *   faults --seed N --case I        one case again, as a failed run names it
@@ -115,7 +116,9 @@ static _Noreturn void fail(const char *format, ...)
 
 /* ---- arenas between guard pages ---- */
 
-enum { A, B, C, D, SLOTS };
+enum { A, B, C, D, E, SLOTS };
+
+#define LONGEST_FILL 4096u /* places of a list of positions, in slot E */
 
 typedef struct arena {
     uint8_t *low;    /* the first byte behind the front guard */
@@ -154,7 +157,7 @@ static void make_arenas(void)
 {
     page_bytes = (size_t)sysconf(_SC_PAGESIZE);
     for (int i = 0; i < SLOTS; i++)
-        make_arena(&small_arena[i], 16384);
+        make_arena(&small_arena[i], i == E ? 2 * 8 * LONGEST_FILL : 16384);
     make_arena(&large_arena[A], 2 * (size_t)HX_LONGEST_TEXT + 64);
     make_arena(&large_arena[B], 2 * (size_t)HX_LONGEST_TEXT + 64);
     make_arena(&large_arena[C], HX_LONGEST_REPORT + 64);
@@ -279,7 +282,8 @@ static void settle(void)
 
 /* ---- figures ---- */
 
-static uint64_t given[HX_ABSENT + 1];
+/* How many calls returned each number, but for fills that it stopped, and how many of those. */
+static uint64_t given[HX_FULL + 1], stopped;
 
 static void expect(uint32_t result, uint32_t expected)
 {
@@ -422,7 +426,7 @@ static void draw_needle(text *needle, const text *t, unsigned width)
         false_text(needle, B, width, HX_LONGEST_NEEDLE);
         return;
     }
-    true_text(needle, B, width, one_in(4) ? lengths[below(COUNT(lengths))] : below(8));
+    true_text(needle, B, width, one_in(4) ? lengths[below(COUNT(lengths))] : one_in(2) ? below(3) : below(8));
     if (is_true(t) && t->length >= needle->length && one_in(2)) {
         memcpy(needle->p.at, t->p.at + below(t->length - needle->length + 1) * width, needle->p.bytes);
         if (needle->p.bytes != 0 && one_in(3))
@@ -620,6 +624,49 @@ static uint64_t stands_from(const text *t, const text *needle, uint64_t from)
     return UINT64_MAX;
 }
 
+/* The index of the walk's first compare at p: where the needle's first piece begins in the block,
+ * as far as the block goes; b where nowhere. */
+static size_t first_index(const text *t, const text *needle, uint64_t p)
+{
+    size_t b = 16 / t->width, left = t->length - p, block = left < b ? left : b;
+    size_t piece = needle->length < b ? needle->length : b;
+    for (size_t k = 0; k < block; k++) {
+        size_t fits = piece < b - k ? piece : b - k;
+        if (k + fits <= block && memcmp(t->p.at + (p + k) * t->width, needle->p.at, fits * t->width) == 0)
+            return k;
+    }
+    return b;
+}
+
+/* Whether the needle's later pieces stand where its first does. Those up to the first that differs
+ * are counted. */
+static bool later_stand(const text *t, const text *needle, uint64_t p, uint64_t *compares)
+{
+    size_t b = 16 / t->width;
+    for (size_t at = b; at < needle->length; at += b) {
+        size_t left = needle->length - at, piece = left < b ? left : b;
+        ++*compares;
+        if (memcmp(t->p.at + (p + at) * t->width, needle->p.at + at * t->width, piece * t->width) != 0)
+            return false;
+    }
+    return true;
+}
+
+/* The compares of the walk from p on, up to a match or to absent. */
+static uint64_t walk_compares(const text *t, const text *needle, uint64_t p)
+{
+    size_t n = t->length, m = needle->length, b = 16 / t->width;
+    uint64_t compares = 0;
+    while (m != 0 && p + m <= n) {
+        size_t k = first_index(t, needle, p), left = n - p;
+        compares++;
+        if (k == 0 && later_stand(t, needle, p, &compares))
+            return compares;
+        p += k == 0 ? 1 : k < b ? k : left < b ? left : b;
+    }
+    return compares;
+}
+
 static uint64_t draw_near(uint64_t n)
 {
     switch (below(8)) {
@@ -635,7 +682,13 @@ static uint64_t draw_near(uint64_t n)
 static void draw_cursor(hx_cursor *cursor, uint64_t n)
 {
     cursor->position = one_in(4) ? 0 : draw_near(n);
-    cursor->compares = one_in(2) ? below(1000) : one_in(2) ? MOST_COMPARES - 1 + below(3) : any_number();
+    switch (below(8)) {
+    case 0:
+    case 1: cursor->compares = MOST_COMPARES - 1 + below(3); break;
+    case 2: cursor->compares = MOST_COMPARES - below(16); break; /* it may stop a fill */
+    case 3: cursor->compares = any_number(); break;
+    default: cursor->compares = below(1000);
+    }
     cursor->exhausted = !one_in(5) ? 0 : one_in(2) ? 1 : one_in(2) ? UINT64_C(1) << below(64) : draw();
 }
 
@@ -656,8 +709,9 @@ static uint32_t next_refusal(const hx_cursor *cursor, const text *t, const text 
 static uint32_t next_call(const text *t, const text *needle, place *c, place *at)
 {
     hx_cursor *cursor = (hx_cursor *)c->at, old = *cursor;
-    uint64_t *position = (uint64_t *)at->at, found = UINT64_MAX, most;
+    uint64_t *position = (uint64_t *)at->at, found = UINT64_MAX, compares;
     uint32_t result, expected = next_refusal(&old, t, needle);
+    function = t->width == 1 ? "hx_next_in_bytes" : "hx_next_in_words";
     argument_count = 2;
     arg("position", old.position), arg("compares", old.compares), arg("exhausted", old.exhausted);
     if (t->width == 1)
@@ -674,13 +728,9 @@ static uint32_t next_call(const text *t, const text *needle, place *c, place *at
         settle();
         return result;
     }
-    /* a step of the walk goes on by at least one position, and makes at most one compare for each
-     * piece of the needle */
-    most = old.position + needle->length > t->length
-               ? 0
-               : (t->length + 1 - old.position) * ((needle->length * t->width + 15) / 16);
-    if (cursor->compares < old.compares || cursor->compares - old.compares > most)
-        fail("compares %" PRIu64 " where %" PRIu64 " more are the most", cursor->compares, most);
+    compares = old.compares + walk_compares(t, needle, old.position);
+    if (cursor->compares != compares)
+        fail("compares %" PRIu64 " where %" PRIu64 " are expected", cursor->compares, compares);
     if (result == HX_MATCH && (*position != found || cursor->position != found + 1 || cursor->exhausted != 0))
         fail("position %" PRIu64 ", cursor %" PRIu64 " %" PRIu64 "; the match is at %" PRIu64, *position,
              cursor->position, cursor->exhausted, found);
@@ -693,9 +743,71 @@ static uint32_t next_call(const text *t, const text *needle, place *c, place *at
     return result;
 }
 
+/* What a fill must return, find and make of the cursor: next match repeated, by plain loops. */
+static uint32_t plain_fill(hx_cursor *cursor, const text *t, const text *needle, size_t length, uint64_t *found,
+                           size_t *count)
+{
+    uint32_t number = next_refusal(cursor, t, needle);
+    *count = 0;
+    while (number == 0 && *count < length) {
+        uint64_t p = stands_from(t, needle, cursor->position);
+        cursor->compares += walk_compares(t, needle, cursor->position);
+        if (p == UINT64_MAX) {
+            cursor->exhausted = 1;
+            return HX_ABSENT;
+        }
+        cursor->position = p + 1;
+        found[(*count)++] = p;
+        if (*count < length) /* else nothing more is tested */
+            number = next_refusal(cursor, t, needle);
+    }
+    return number != 0 ? number : HX_FULL;
+}
+
+/* One fill from the cursor as it stands, and what it must leave: all as it was where it is refused,
+ * and the rest of the list always. */
+static uint32_t fill_call(const text *t, const text *needle, place *c, place *list, place *told)
+{
+    static uint64_t found[LONGEST_FILL];
+    hx_cursor *cursor = (hx_cursor *)c->at, after = *cursor;
+    uint64_t *positions = (uint64_t *)list->at;
+    size_t length = list->bytes / 8, *count = (size_t *)told->at, wanted;
+    uint32_t result;
+    function = t->width == 1 ? "hx_fill_in_bytes" : "hx_fill_in_words";
+    argument_count = 2;
+    arg("position", after.position), arg("compares", after.compares), arg("exhausted", after.exhausted);
+    arg("positions_length", length);
+    if (t->width == 1)
+        CALL(hx_fill_in_bytes(cursor, t->p.at, t->length, needle->p.at, needle->length, positions, length, count));
+    else
+        CALL(hx_fill_in_words(cursor, (const uint16_t *)t->p.at, t->length, (const uint16_t *)needle->p.at,
+                              needle->length, positions, length, count));
+    expect(result, plain_fill(&after, t, needle, length, found, &wanted));
+    if (result < HX_ABSENT && wanted != 0) {
+        given[result]--;
+        stopped++;
+    }
+    if (result >= HX_ABSENT || wanted != 0) {
+        if (*count != wanted)
+            fail("count %zu where %zu is expected", *count, wanted);
+        for (size_t i = 0; i < wanted; i++)
+            if (positions[i] != found[i])
+                fail("position %zu is %" PRIu64 "; the match is at %" PRIu64, i, positions[i], found[i]);
+        if (memcmp(cursor, &after, sizeof after) != 0)
+            fail("cursor %" PRIu64 " %" PRIu64 " %" PRIu64 " where %" PRIu64 " %" PRIu64 " %" PRIu64 " is expected",
+                 cursor->position, cursor->compares, cursor->exhausted, after.position, after.compares,
+                 after.exhausted);
+        written(c, sizeof after);
+        written(list, 8 * wanted);
+        written(told, sizeof *count);
+    }
+    settle();
+    return result;
+}
+
 static void draw_search(text *t, text *needle, place *c, place *at, unsigned width)
 {
-    begin(width == 1 ? "hx_next_in_bytes" : "hx_next_in_words");
+    begin("a search");
     draw_text(t, A, width);
     draw_needle(needle, t, width);
     /* a needle that is a part of the text itself, at its own address */
@@ -711,6 +823,26 @@ static void draw_search(text *t, text *needle, place *c, place *at, unsigned wid
     arg("text_length", t->length), arg("needle_length", needle->length);
 }
 
+/* A list of positions, with any bits in it before the call. */
+static void draw_list(place *list, const text *t)
+{
+    size_t length;
+    switch (below(8)) {
+    case 0: length = 0; break;
+    case 1: length = 1; break;
+    case 2: length = 2 + below(3); break;
+    case 3: length = below(one_in(16) ? LONGEST_FILL + 1 : 200); break;
+    case 4: length = below((t->length < 100 ? t->length : 100) + 3); break;
+    default: length = below(20);
+    }
+    put(list, E, 8 * length, 8, true);
+    for (size_t i = 0; i < length; i++) {
+        uint64_t bits = draw();
+        memcpy(list->at + 8 * i, &bits, 8);
+    }
+    chosen(list);
+}
+
 static void try_next(unsigned width)
 {
     text t, needle;
@@ -722,11 +854,27 @@ static void try_next(unsigned width)
     next_call(&t, &needle, &c, &at);
 }
 
+static void try_fill(unsigned width)
+{
+    text t, needle;
+    place c, list, count;
+    draw_search(&t, &needle, &c, &count, width);
+    draw_list(&list, &t);
+    hx_cursor *cursor = (hx_cursor *)c.at;
+    if (!one_in(16)) /* else any bits */
+        draw_cursor(cursor, t.length);
+    if (one_in(2)) /* so that more are accepted */
+        cursor->position = cursor->exhausted = 0;
+    chosen(&c);
+    fill_call(&t, &needle, &c, &list, &count);
+}
+
 static void check_fresh(place *c)
 {
     static const hx_cursor zeros;
     hx_cursor *cursor = (hx_cursor *)c->at;
     bool kept = c->is_read;
+    function = "hx_cursor_fresh";
     c->is_read = false;
     before_call();
     hx_cursor_fresh(cursor);
@@ -762,8 +910,39 @@ static void try_list(unsigned width)
         fail("a call after absent was not refused");
 }
 
+/* Fills and next matches mixed, each with the cursor of the last; after absent a fill is refused.
+ * It ends after twenty calls. */
+static void try_mixture(unsigned width)
+{
+    text t, needle;
+    place c, at, list;
+    draw_search(&t, &needle, &c, &at, width);
+    if (one_in(2))
+        check_fresh(&c);
+    else
+        draw_cursor((hx_cursor *)c.at, t.length);
+    chosen(&c);
+    uint32_t last = HX_FULL;
+    size_t others = used_count;
+    for (int i = 0; i < 20 && (last == HX_MATCH || last == HX_FULL); i++) {
+        used_count = others;
+        if (one_in(3)) {
+            last = next_call(&t, &needle, &c, &at);
+        } else {
+            draw_list(&list, &t);
+            last = fill_call(&t, &needle, &c, &list, &at);
+        }
+    }
+    used_count = others;
+    draw_list(&list, &t);
+    if (last == HX_ABSENT && fill_call(&t, &needle, &c, &list, &at) != HX_EXHAUSTED_REFUSED)
+        fail("a fill after absent was not refused");
+}
+
 static void try_next_bytes(void) { one_in(8) ? try_list(1) : try_next(1); }
 static void try_next_words(void) { one_in(8) ? try_list(2) : try_next(2); }
+static void try_fill_bytes(void) { one_in(8) ? try_mixture(1) : try_fill(1); }
+static void try_fill_words(void) { one_in(8) ? try_mixture(2) : try_fill(2); }
 
 /* ---- leading runs ---- */
 
@@ -1040,7 +1219,7 @@ static void (*const tries[])(void) = {
     /* the unit */
     try_pcmpestri, try_pcmpestrm, try_pcmpistri, try_pcmpistrm, try_0c, try_0d, try_18, try_19,
     /* the search */
-    try_fresh, try_next_bytes, try_next_words,
+    try_fresh, try_next_bytes, try_next_words, try_fill_bytes, try_fill_words,
     /* leading runs */
     try_span_bytes, try_span_words, try_ranges_bytes, try_ranges_words,
     /* orders */
@@ -1103,15 +1282,17 @@ static double seconds(void)
     return (double)now.tv_sec + (double)now.tv_nsec / 1e9;
 }
 
+static double percent(uint64_t part) { return 100.0 * (double)part / (double)calls; }
+
 static void tell_figures(double took)
 {
     printf("tests/faults: %" PRIu64 " calls in %.1f s, %.0f a second, none wrong (seed %" PRIu64 ", digest %016" PRIx64
-           ", " FORM "); accepted %.2f %%, absent %.2f %%, refused by",
-           calls, took, (double)calls / took, seed, digest, 100.0 * (double)given[0] / (double)calls,
-           100.0 * (double)given[HX_ABSENT] / (double)calls);
+           ", " FORM "); accepted %.2f %%, absent %.2f %%, full %.2f %%, stopped %.2f %%, refused by",
+           calls, took, (double)calls / took, seed, digest, percent(given[0]), percent(given[HX_ABSENT]),
+           percent(given[HX_FULL]), percent(stopped));
     for (uint32_t i = 1; i < HX_ABSENT; i++)
         if (given[i] != 0)
-            printf(" %" PRIu32 ": %.2f %%", i, 100.0 * (double)given[i] / (double)calls);
+            printf(" %" PRIu32 ": %.2f %%", i, percent(given[i]));
     printf("\n");
 }
 

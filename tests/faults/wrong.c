@@ -118,6 +118,93 @@ WRAPPED(uint32_t, hx_next_in_words,
     return r;
 }
 
+static int same(const hx_cursor *a, const hx_cursor *b) { return memcmp(a, b, sizeof *a) == 0; }
+
+WRAPPED(uint32_t, hx_fill_in_bytes,
+        (hx_cursor * cursor, const uint8_t *text, size_t text_length, const uint8_t *needle, size_t needle_length,
+         uint64_t *positions, size_t positions_length, size_t *count))
+{
+    hx_cursor old = *cursor, ahead;
+    size_t old_count = *count;
+    uint64_t position;
+    if (wrong(39) && positions_length == 0) { /* an empty list is full, and nothing is tested */
+        *count = 0;
+        return HX_FULL;
+    }
+    uint32_t r = __real_hx_fill_in_bytes(cursor, text, text_length, needle, needle_length, positions, positions_length,
+                                         count);
+    int refused = r < HX_ABSENT && same(cursor, &old), stopped = r < HX_ABSENT && !refused;
+    if (wrong(40) && r == HX_FULL) /* writes behind the list */
+        positions[positions_length] = 0;
+    /* ends the positions by a number that is none */
+    if (wrong(41) && r == HX_ABSENT && *count < positions_length)
+        positions[*count] = UINT64_MAX;
+    if (wrong(42) && refused) /* a refused call tells 0 matches */
+        *count = 0;
+    ahead = *cursor;
+    /* looks for one more match where the list is full */
+    if (wrong(43) && r == HX_FULL &&
+        __real_hx_next_in_bytes(&ahead, text, text_length, needle, needle_length, &position) == HX_ABSENT) {
+        *cursor = ahead;
+        return HX_ABSENT;
+    }
+    if (wrong(44) && stopped) { /* stopped, it leaves cursor and count as if it were refused */
+        *cursor = old;
+        *count = old_count;
+    }
+    if (wrong(45) && stopped) /* stopped, it tells that there is no more match */
+        return HX_ABSENT;
+    /* lets the next call find the last match again */
+    if (wrong(46) && r == HX_FULL && positions_length != 0)
+        cursor->position--;
+    if (wrong(47) && r == HX_FULL && text_length != 0) /* reads behind the text */
+        sink = text[text_length];
+    return r;
+}
+
+WRAPPED(uint32_t, hx_fill_in_words,
+        (hx_cursor * cursor, const uint16_t *text, size_t text_length, const uint16_t *needle, size_t needle_length,
+         uint64_t *positions, size_t positions_length, size_t *count))
+{
+    hx_cursor old = *cursor;
+    size_t old_count = *count;
+    /* tests the compares before the first match alone */
+    if (wrong(48) && old.compares <= HX_MOST_COMPARES)
+        cursor->compares = 0;
+    uint32_t r = __real_hx_fill_in_words(cursor, text, text_length, needle, needle_length, positions, positions_length,
+                                         count);
+    if (wrong(48) && old.compares <= HX_MOST_COMPARES)
+        cursor->compares += old.compares;
+    int refused = r < HX_ABSENT && same(cursor, &old), stopped = r < HX_ABSENT && !refused;
+    /* tests once more where the list is full */
+    if (wrong(49) && r == HX_FULL && cursor->compares > HX_MOST_COMPARES)
+        return HX_COMPARES_REFUSED;
+    if (wrong(50) && r == HX_FULL) /* skips a position between two lists */
+        cursor->position++;
+    if (wrong(51) && r == HX_ABSENT) /* absent puts the position behind the text */
+        cursor->position = text_length + 1;
+    if (wrong(52) && r == HX_ABSENT && cursor->compares > old.compares) /* a compare too few */
+        cursor->compares--;
+    if (wrong(53) && r == HX_ABSENT && *count == 0) /* leaves a count of 0 unwritten */
+        *count = old_count;
+    if (wrong(54) && r >= HX_ABSENT && *count > 1) { /* the greatest first */
+        uint64_t first = positions[0];
+        positions[0] = positions[*count - 1];
+        positions[*count - 1] = first;
+    }
+    if (wrong(55) && refused && positions_length != 0) /* a refused call writes into the list */
+        positions[0] = 0;
+    if (wrong(56) && r == HX_EXHAUSTED_REFUSED) /* and 1 for what is not 0 */
+        cursor->exhausted = 1;
+    if (wrong(57) && stopped) /* stopped, it tells one match less */
+        --*count;
+    if (wrong(58) && r == HX_FULL && positions_length == 0) /* writes nothing for an empty list */
+        *count = old_count;
+    if (wrong(59)) /* reads before the list */
+        sink = (uint8_t)positions[-1];
+    return r;
+}
+
 WRAPPED(uint32_t, hx_span_in_bytes,
         (const uint8_t *text, size_t text_length, const uint8_t *set, size_t set_length, size_t *span))
 {
