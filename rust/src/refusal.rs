@@ -3,8 +3,8 @@ use std::fmt;
 
 macro_rules! refusals {
     ($($name:ident = $number:literal, $condition:literal;)*) => {
-        /// Why a call was refused. Where several conditions hold, the lowest number is given; a
-        /// report alone tests 7, 6, 3.
+        /// Why a call was refused, or a fill stopped ([`End`](crate::End)). Where several
+        /// conditions hold, the lowest number is given; a report alone tests 7, 6, 3.
         ///
         /// ```
         /// use hirtxonda::{pcmpistri, Refusal};
