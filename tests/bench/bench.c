@@ -63,18 +63,26 @@ static void make_register(uint8_t *text, size_t n) {
 
 // ---- the real walk: that of document 01, "The walk", with the processor's own instructions
 
-__attribute__((noinline)) static uint32_t real_next_in_bytes(hx_cursor *c, const uint8_t *text, size_t n, const uint8_t *needle, size_t m, uint64_t *position) {
+static inline uint32_t refusal(const hx_cursor *c, size_t n, size_t m) {
     if (n > HX_LONGEST_TEXT) return HX_TEXT_REFUSED;
     if (m > HX_LONGEST_NEEDLE) return HX_NEEDLE_REFUSED;
     if (c->exhausted) return HX_EXHAUSTED_REFUSED;
     if (c->position > n + 1) return HX_POSITION_REFUSED;
-    if (c->compares > 1099511627776u) return HX_COMPARES_REFUSED;
-    size_t p = c->position;
-    uint64_t compares = c->compares;
-    int l = m < 16 ? (int)m : 16;
+    if (c->compares > HX_MOST_COMPARES) return HX_COMPARES_REFUSED;
+    return 0;
+}
+
+// the needle's first piece as an operand
+static inline __m128i first_in_bytes(const uint8_t *needle, int l) {
     uint8_t front[16] = {0};
     memcpy(front, needle, (size_t)l);
-    __m128i first = _mm_loadu_si128((const __m128i *)front);
+    return _mm_loadu_si128((const __m128i *)front);
+}
+
+// the walk from an accepted cursor on; `first` is the needle's first piece, of l elements
+static inline uint32_t real_walk_in_bytes(hx_cursor *c, const uint8_t *text, size_t n, const uint8_t *needle, size_t m, __m128i first, int l, uint64_t *position) {
+    size_t p = c->position;
+    uint64_t compares = c->compares;
     while (p + m <= n) {
         if (m == 0) goto found;
         size_t left = n - p;
@@ -126,18 +134,45 @@ __attribute__((noinline)) static uint32_t real_next_in_bytes(hx_cursor *c, const
     return HX_ABSENT;
 }
 
-__attribute__((noinline)) static uint32_t real_next_in_words(hx_cursor *c, const uint16_t *text, size_t n, const uint16_t *needle, size_t m, uint64_t *position) {
-    if (n > HX_LONGEST_TEXT) return HX_TEXT_REFUSED;
-    if (m > HX_LONGEST_NEEDLE) return HX_NEEDLE_REFUSED;
-    if (c->exhausted) return HX_EXHAUSTED_REFUSED;
-    if (c->position > n + 1) return HX_POSITION_REFUSED;
-    if (c->compares > 1099511627776u) return HX_COMPARES_REFUSED;
-    size_t p = c->position;
-    uint64_t compares = c->compares;
-    int l = m < 8 ? (int)m : 8;
+__attribute__((noinline)) static uint32_t real_next_in_bytes(hx_cursor *c, const uint8_t *text, size_t n, const uint8_t *needle, size_t m, uint64_t *position) {
+    uint32_t number = refusal(c, n, m);
+    if (number) return number;
+    int l = m < 16 ? (int)m : 16;
+    return real_walk_in_bytes(c, text, n, needle, m, first_in_bytes(needle, l), l, position);
+}
+
+__attribute__((noinline)) static uint32_t real_fill_in_bytes(hx_cursor *cursor, const uint8_t *text, size_t n, const uint8_t *needle, size_t m, uint64_t *positions, size_t length, size_t *count) {
+    hx_cursor c = *cursor;
+    uint32_t number = refusal(&c, n, m);
+    if (number) return number;
+    int l = m < 16 ? (int)m : 16;
+    __m128i first = first_in_bytes(needle, l);
+    size_t k = 0;
+    uint32_t end = HX_FULL;
+    while (k < length) {
+        end = refusal(&c, n, m);
+        if (end) break;
+        end = real_walk_in_bytes(&c, text, n, needle, m, first, l, &positions[k]);
+        if (end) break;
+        k++;
+        end = HX_FULL;
+    }
+    *cursor = c;
+    *count = k;
+    return end;
+}
+
+// the needle's first piece as an operand
+static inline __m128i first_in_words(const uint16_t *needle, int l) {
     uint16_t front[8] = {0};
     memcpy(front, needle, (size_t)l * 2);
-    __m128i first = _mm_loadu_si128((const __m128i *)front);
+    return _mm_loadu_si128((const __m128i *)front);
+}
+
+// the walk from an accepted cursor on; `first` is the needle's first piece, of l elements
+static inline uint32_t real_walk_in_words(hx_cursor *c, const uint16_t *text, size_t n, const uint16_t *needle, size_t m, __m128i first, int l, uint64_t *position) {
+    size_t p = c->position;
+    uint64_t compares = c->compares;
     while (p + m <= n) {
         if (m == 0) goto found;
         size_t left = n - p;
@@ -189,6 +224,34 @@ __attribute__((noinline)) static uint32_t real_next_in_words(hx_cursor *c, const
     return HX_ABSENT;
 }
 
+__attribute__((noinline)) static uint32_t real_next_in_words(hx_cursor *c, const uint16_t *text, size_t n, const uint16_t *needle, size_t m, uint64_t *position) {
+    uint32_t number = refusal(c, n, m);
+    if (number) return number;
+    int l = m < 8 ? (int)m : 8;
+    return real_walk_in_words(c, text, n, needle, m, first_in_words(needle, l), l, position);
+}
+
+__attribute__((noinline)) static uint32_t real_fill_in_words(hx_cursor *cursor, const uint16_t *text, size_t n, const uint16_t *needle, size_t m, uint64_t *positions, size_t length, size_t *count) {
+    hx_cursor c = *cursor;
+    uint32_t number = refusal(&c, n, m);
+    if (number) return number;
+    int l = m < 8 ? (int)m : 8;
+    __m128i first = first_in_words(needle, l);
+    size_t k = 0;
+    uint32_t end = HX_FULL;
+    while (k < length) {
+        end = refusal(&c, n, m);
+        if (end) break;
+        end = real_walk_in_words(&c, text, n, needle, m, first, l, &positions[k]);
+        if (end) break;
+        k++;
+        end = HX_FULL;
+    }
+    *cursor = c;
+    *count = k;
+    return end;
+}
+
 // ---- what is searched
 
 enum { BYTES, WORDS };
@@ -204,7 +267,7 @@ typedef struct {
     uint64_t hits, sum, compares;
 } outcome;
 
-enum { PROVED, REAL, MEMMEM, LOOP, CONTENDERS };
+enum { PROVED, REAL, FILL, REAL_FILL, MEMMEM, LOOP, CONTENDERS };
 
 static outcome walk_all(const search_case *s, int real) {
     outcome o = {0, 0, 0};
@@ -218,6 +281,26 @@ static outcome walk_all(const search_case *s, int real) {
         uint32_t (*next)(hx_cursor *, const uint16_t *, size_t, const uint16_t *, size_t, uint64_t *) = real ? real_next_in_words : hx_next_in_words;
         while (next(&c, s->text, s->n, s->needle, s->m, &p) == HX_MATCH) o.hits++, o.sum += p;
     }
+    o.compares = c.compares;
+    return o;
+}
+
+// the positions of a list that a fill takes, as the office's calls do
+#define LIST 256
+
+static outcome fill_all(const search_case *s, int real) {
+    outcome o = {0, 0, 0};
+    hx_cursor c;
+    uint64_t list[LIST];
+    size_t count;
+    uint32_t end;
+    hx_cursor_fresh(&c);
+    do {
+        if (s->width == BYTES) end = (real ? real_fill_in_bytes : hx_fill_in_bytes)(&c, s->text, s->n, s->needle, s->m, list, LIST, &count);
+        else end = (real ? real_fill_in_words : hx_fill_in_words)(&c, s->text, s->n, s->needle, s->m, list, LIST, &count);
+        o.hits += count;
+        for (size_t i = 0; i < count; i++) o.sum += list[i];
+    } while (end == HX_FULL);
     o.compares = c.compares;
     return o;
 }
@@ -257,6 +340,8 @@ static outcome run(const search_case *s, int contender) {
     switch (contender) {
     case PROVED: return walk_all(s, 0);
     case REAL: return walk_all(s, 1);
+    case FILL: return fill_all(s, 0);
+    case REAL_FILL: return fill_all(s, 1);
     case MEMMEM: return memmem_all(s);
     default: return loop_all(s);
     }
@@ -321,7 +406,7 @@ static void make_cases(size_t n) {
 }
 
 static void check(const search_case *s, int contender, outcome a, outcome b) {
-    if (a.hits != b.hits || a.sum != b.sum || (contender == REAL && a.compares != b.compares)) {
+    if (a.hits != b.hits || a.sum != b.sum || (contender < MEMMEM && a.compares != b.compares)) {
         fprintf(stderr, "bench: %s: contender %d differs\n", s->name, contender);
         exit(1);
     }
