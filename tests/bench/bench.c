@@ -9,7 +9,7 @@
 //   bench entries ROUNDS     one compare at 0Ch and at 18h, block after block
 //
 // Times are the least of the rounds, in nanoseconds. In `search` each contender's matches are
-// checked against the proved search's, and the real walk's compares too.
+// checked against the proved search's, and so are the compares of every walk.
 #define _GNU_SOURCE
 #include <immintrin.h>
 #include <setjmp.h>

@@ -2,7 +2,8 @@
 // under names that begin with `hx_`, for C and Rust to link (include/hirtxonda.h).
 //
 // A call that may be refused returns 0, or the number that refuses it; a search returns 256 for
-// absent. Its results it writes through the caller's pointers, and refused it writes nothing.
+// absent, and a fill 257 for full. Its results it writes through the caller's pointers, and refused
+// it writes nothing.
 // Operands and masks are sixteen bytes behind a pointer, texts a pointer and a length. What crosses
 // is defined in specs/Crossing.antt. This file has what several calls share.
 mod columns;

@@ -12,7 +12,7 @@ use native.Mathlib.Nat.{sub-zero}
 use native.Mathlib.Numerals.{add-one}
 use Rattle.search.specs.declared.Cursor.{Cursor}
 use Rattle.search.specs.declared.Next.{Next}
-use Rattle.search.specs.declared.Next.the-variants.{Match, Absent, Refused}
+use Rattle.search.specs.declared.Next.the-variants.{Match, Refused}
 use Rattle.search.specs.declared.End.{End}
 use Rattle.search.specs.declared.End.the-variants.{Full, Stopped}
 use Rattle.search.specs.declared.Filled.{Filled}

@@ -2,24 +2,23 @@
 -- places goes as k next matches up to the first that finds nothing; from its cursor on every next
 -- match is refused and changes nothing, so that those left over give nothing. By induction on the
 -- places of a fill, then on the calls. Assumes nothing.
-use Prim.Native.Nat.{ℕ, zero, suc, _+_, _≤_, _<_}
+use Prim.Native.Nat.{ℕ, zero, suc, _+_}
 use mathlib.Core.Path.{_≡_, refl, sym, ap, _∙_}
-use mathlib.Core.Bool.{Bool, true, false}
+use mathlib.Core.Bool.{Bool}
 use mathlib.Core.List.{List, [], _∷_, _++_, map}
 use lib.ListN.{length, take, replicate}
 use native.Mathlib.Omega.{arith}
-use native.Mathlib.Nat.{add-assoc, suc-add, zero-add}
+use native.Mathlib.Nat.{suc-add, zero-add}
 use native.Mathlib.Numerals.{one-add}
-use Rattle.blocks.specs.Blocks.{longestText}
 use Rattle.search.specs.declared.Cursor.{Cursor}
 use Rattle.search.specs.declared.Next.{Next}
 use Rattle.search.specs.declared.Next.the-variants.{Match, Absent, Refused}
 use Rattle.search.specs.Positions.{positions}
 use Rattle.search.specs.Walk.{Ended, matchAt, nowhere, walk}
-use Rattle.search.specs.Cursors.{freshCursor, longestNeedle, refusal, accepted, answered, nextMatch}
+use Rattle.search.specs.Cursors.{freshCursor, refusal, accepted, answered, nextMatch}
 use Rattle.search.specs.Calls.{Said, found, absent, refused, said, cursorOf, saidBy, cursorAfter}
-use Rattle.search.specs.Fills.{Fill, afterNext, emptyList, fill, fillFrom}
-use Rattle.search.specs.Mixed.{Call, aNext, aFill, asked, askedBy, foundIn, givenBy, cursorBy, allGiven, cursorAfterAll, MixedAsNext, MixedFinds}
+use Rattle.search.specs.Fills.{afterNext, emptyList, fill, fillFrom}
+use Rattle.search.specs.Mixed.{Call, aNext, aFill, asked, askedBy, foundIn, givenBy, cursorBy, MixedAsNext, MixedFinds}
 use Rattle.search.proofs.Refusals.{accepted-is, exhausted-refused}
 use Rattle.search.proofs.Lists.{calls-find-all, next-refused}
 

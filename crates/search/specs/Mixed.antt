@@ -1,6 +1,6 @@
 -- The claim on a list of calls, next matches and fills mixed in any order, over one text and one
 -- needle: they give what next matches alone would have given, one for each place asked for.
-use Prim.Native.Nat.{ℕ, zero, suc, _+_, _≤_}
+use Prim.Native.Nat.{ℕ, _+_, _≤_}
 use mathlib.Core.Path.{_≡_}
 use mathlib.Core.Bool.{Bool}
 use mathlib.Core.List.{List, [], _∷_, _++_}

@@ -120,10 +120,10 @@ impl Cursor {
             (length (now (positions .entry))) self)
             (now (positions .entry)) r (now (positions .exit)) ⌝ }
     {
-        let number = self.refusal(text.len(), needle.len());
+        let stop = self.refusal(text.len(), needle.len());
         let places = positions.len();
-        if number > 0 {
-            return Next::Refused(number, self).filled(0);
+        if stop > 0 {
+            return Next::Refused(stop, self).filled(0);
         }
         if places == 0 {
             return Filled {

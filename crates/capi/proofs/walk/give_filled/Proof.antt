@@ -1,5 +1,5 @@
--- Full and absent write cursor and count, and so does a number after some positions; a number before
--- the first writes nothing. Assumes nothing.
+-- Full and absent write cursor and count, and so does a number after some positions; a number
+-- before the first writes nothing. Assumes nothing.
 use native.Mathlib.Omega.{arith}
 use borrow.Author.Needs.{needs}
 use Rattle.capi.proofs.Crossings.{full-written, no-more-written, stopped-kept, stopped-written}

@@ -1,6 +1,6 @@
 -- `search::Cursor::fill_in_words` meets its contract: a refused call, an empty list, or a walk.
 -- Assumes nothing.
-use mathlib.Core.Path.{_≡_, refl, sym, _∙_}
+use mathlib.Core.Path.{refl, sym, _∙_}
 use lib.ListN.{length}
 use native.Mathlib.Omega.{arith}
 use borrow.Author.Needs.{needs}

@@ -1,6 +1,6 @@
 -- `search::Cursor::next_in_words` meets its contract: a refused call, or a walk with a list of one.
 -- Assumes nothing.
-use mathlib.Core.Path.{_≡_, refl, sym}
+use mathlib.Core.Path.{refl, sym}
 use native.Mathlib.Omega.{arith}
 use borrow.Author.Needs.{needs}
 use Rattle.unit.specs.Operand.{inWords}

@@ -1,7 +1,7 @@
--- `search::Cursor::step_in_words` meets its contract: the empty needle, the block at the text's end,
--- or what the scan comes to. Assumes nothing.
-use Prim.Native.Nat.{ℕ, _+_, _-_, _≤_}
-use mathlib.Core.Path.{_≡_, refl, ap, _∙_}
+-- `search::Cursor::step_in_words` meets its contract: the empty needle, the block at the text's
+-- end, or what the scan comes to. Assumes nothing.
+use Prim.Native.Nat.{ℕ, _+_, _-_}
+use mathlib.Core.Path.{refl, ap, _∙_}
 use lib.Dec.{eqb}
 use lib.ListN.{length}
 use native.Mathlib.Omega.{arith}

@@ -1,7 +1,7 @@
--- `search::Cursor::walk_in_words` meets its contract. The invariant: the positions found so far, then
--- the fill of the places left, make up the whole fill (Fills.antt). Assumes nothing.
+-- `search::Cursor::walk_in_words` meets its contract. The invariant: the positions found so far,
+-- then the fill of the places left, make up the whole fill (Fills.antt). Assumes nothing.
 use Prim.Native.Nat.{_+_, _-_}
-use mathlib.Core.Path.{_≡_, sym, ap, _∙_}
+use mathlib.Core.Path.{sym, ap, _∙_}
 use lib.ListN.{length, length-take}
 use native.Mathlib.Omega.{arith}
 use borrow.Author.Needs.{needs}

@@ -1,5 +1,5 @@
 -- `search::Next::filled` meets its contract, an answer at a time. Assumes nothing.
-use mathlib.Core.Path.{_≡_, refl, sym, ap}
+use mathlib.Core.Path.{sym, ap}
 use borrow.Author.Needs.{needs}
 use Rattle.search.specs.Moves.{filledBy}
 use Rattle.search.proofs.Next.filled.Statement.{statement}
