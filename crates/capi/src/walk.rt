@@ -39,15 +39,16 @@ fn numbers_of(cursor: Cursor) -> [u64; 3]
     ]
 }
 
-// Hands the answer of a search to the caller.
+// Hands the answer of next match to the caller: the position first, for speed
+// (docs/PERFORMANCE.md).
 fn give_next(next: Next, cursor: &mut [u64; 3], position: &mut u64) -> u32
     ensures { λ r. ⌜ NextGiven next (now (cursor .entry)) (now (position .entry)) r
         (now (cursor .exit)) (now (position .exit)) ⌝ }
 {
     match next {
         Next::Match(p, after) => {
-            *cursor = numbers_of(after);
             *position = p;
+            *cursor = numbers_of(after);
             0
         }
         Next::Absent(after) => {
