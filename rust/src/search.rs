@@ -190,8 +190,8 @@ impl Cursor {
     /// # Errors
     ///
     /// [`Refusal::Text`], [`Refusal::Needle`], [`Refusal::Exhausted`], [`Refusal::Position`],
-    /// [`Refusal::Compares`], each before the first match; the whole list is as it was. A refusal
-    /// after it is no error but an [`End`], since some positions were found.
+    /// [`Refusal::Compares`], each before the first match; the whole list is as it was. A number
+    /// after it is no refusal: the fill is stopped, see [`End::Stopped`].
     pub fn fill<E: Element>(self, text: &[E], needle: &[E], positions: &mut [u64]) -> Result<Filled, Refusal> {
         let mut after = self.to_raw();
         let mut count = 0;

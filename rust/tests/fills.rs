@@ -98,13 +98,15 @@ fn one_letter<E: Letter>(n: usize) -> Vec<E> {
     vec![E::cut(0x5a5a); n]
 }
 
-/// Every n and cursor's position, short needles, and lists of every length up to one that is too
-/// long for the matches.
+/// Every n up to 16 and short needles, and a needle of two pieces in texts of two blocks; every
+/// cursor's position, and lists of every length up to one that is too long for the matches.
 fn every_size_up_to_16<E: Letter>() {
     let mut random = Random::fixed("every_size_up_to_16");
     let real = silicon_available("every_size_up_to_16");
     for alphabet in [TWO, ONE] {
-        for (n, m) in (0..=16).flat_map(|n| [0, 1, 2, 3, E::BLOCK + 1].map(|m| (n, m))) {
+        let short = (0..=16).flat_map(|n| [0, 1, 2, 3].map(|m| (n, m)));
+        let two_pieces = (E::BLOCK..=2 * E::BLOCK + 1).map(|n| (n, E::BLOCK + 1));
+        for (n, m) in short.chain(two_pieces) {
             let needle: Vec<E> = text(&mut random, alphabet, m);
             let mut text = text(&mut random, alphabet, n);
             put(&mut text, random.below(n + 1), &needle);

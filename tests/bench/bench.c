@@ -285,7 +285,7 @@ static outcome walk_all(const search_case *s, int real) {
     return o;
 }
 
-// the positions of a list that a fill takes, as the office's calls do
+// how many positions a list has
 #define LIST 256
 
 static outcome fill_all(const search_case *s, int real) {

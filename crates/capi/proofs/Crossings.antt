@@ -19,7 +19,7 @@ use Rattle.search.specs.declared.Next.the-variants.{Match, Absent, Refused}
 use Rattle.search.specs.declared.End.{End}
 use Rattle.search.specs.declared.End.the-variants.{Full, Absent as EndAbsent, Stopped}
 use Rattle.search.specs.declared.Filled.{Filled}
-use Rattle.search.specs.Fills.{Fill, FillGiven as Filling, FillSaid, fillSaid, saidAt, stopped, stoppedAfter}
+use Rattle.search.specs.Fills.{Fill, FillAnswered, FillSaid, fillSaid, saidAt, stopped, stoppedAfter}
 use Rattle.orders.specs.declared.OrderAnswer.{OrderAnswer}
 use Rattle.orders.specs.Orders.{isSecond, order, orderAnswer, orderRefusal}
 use Rattle.report.specs.declared.ReportAnswer.{ReportAnswer}
@@ -98,7 +98,7 @@ module _ (a : Filled) (ns : List ℕ) (old : ℕ) where
 
 -- what the search answered, handed on
 pub fill-handed : (f : Fill) (a : Filled) (ns positions : List ℕ) (old r : ℕ) (ns' positions' : List ℕ) (new : ℕ)
-    → Filling f positions a positions' → FilledGiven a ns old r ns' new → FillGiven f ns positions old r ns' positions' new
+    → FillAnswered f positions a positions' → FilledGiven a ns old r ns' new → FillGiven f ns positions old r ns' positions' new
 fill-handed f a ns positions old r ns' positions' new told given =
     record { answer = subst (λ (x : Filled). FilledGiven x ns old r ns' new) (told .answer) given; positions-after = told .list-after }
 

@@ -62,8 +62,8 @@ numbersOf c = c .position ∷ c .compares ∷ cond (c .exhausted) 1 0 ∷ []
 abbrev pub cursorOf : List ℕ → Cursor
 cursorOf ns = cursorAt (getD ns 0 0) (getD ns 1 0) (truth (getD ns 2 0))
 
--- what a call returns: 0 for a match, 256 for absent, which is above every refusal's number, or
--- that number
+-- what next match returns: 0 for a match, 256 for absent, which is above every refusal's number,
+-- or that number
 abbrev pub statusOf : Said → ℕ
 statusOf (found p) = 0
 statusOf absent = 256

@@ -3,8 +3,9 @@
 -- fill of the places left from the cursor of the present match on. Assumes nothing.
 use Prim.Native.Nat.{ℕ, zero, suc, _+_, _-_, _≤_, _<_}
 use mathlib.Core.Path.{_≡_, refl, sym, ap, _∙_}
-use mathlib.Core.Bool.{Bool, true, false}
+use mathlib.Core.Bool.{Bool, true, false, cond}
 use mathlib.Core.List.{List, [], _∷_, _++_, append-nil, append-assoc}
+use lib.Dec.{ltb}
 use lib.ListN.{length, getD, drop, set, length-append, length-drop, length-set}
 use lib.Seq.{drop-cons, set-at}
 use native.Mathlib.Omega.{arith}
@@ -12,19 +13,20 @@ use native.Mathlib.Nat.{sub-zero}
 use native.Mathlib.Numerals.{add-one}
 use Rattle.search.specs.declared.Cursor.{Cursor}
 use Rattle.search.specs.declared.Next.{Next}
-use Rattle.search.specs.declared.Next.the-variants.{Match, Refused}
+use Rattle.search.specs.declared.Next.the-variants.{Match, Absent, Refused}
 use Rattle.search.specs.declared.End.{End}
 use Rattle.search.specs.declared.End.the-variants.{Full, Stopped}
 use Rattle.search.specs.declared.Filled.{Filled}
 use Rattle.search.specs.declared.Stepped.{Stepped}
 use Rattle.search.specs.declared.Walked.{Walked}
-use Rattle.search.specs.Walk.{matchAt, nowhere}
-use Rattle.search.specs.Cursors.{refusal, nextMatch}
+use Rattle.search.specs.Walk.{Ended, matchAt, nowhere, walk}
+use Rattle.search.specs.Cursors.{accepted, answered, cursorAt, mostCompares, refusal, nextMatch}
 use Rattle.search.specs.Calls.{cursorOf}
-use Rattle.search.specs.Fills.{Fill, FillGiven, answerOf, fill, fillFrom, fillOf, written}
+use Rattle.search.specs.Fills.{afterNext, answerOf, emptyList, Fill, fill, FillAnswered, fillFrom, fillOf, written}
 use Rattle.search.specs.Moves.{Led, Walks, ended, endOf, filledBy, moved, total}
+use Rattle.search.proofs.Walks.{WalkOk, walk-ok}
 use Rattle.search.proofs.Lists.{next-refused}
-use Rattle.search.proofs.Refusals.{accepted-is}
+use Rattle.search.proofs.Refusals.{accepted-is, compares-alone}
 use Rattle.search.proofs.Turns.{next-ended, total-past, turn-found, turn-on}
 
 -- positions in front of a fill
@@ -134,37 +136,37 @@ module _ {words : Bool} {text needle list : List ℕ} {c from at : Cursor} {k : 
     abbrev d : Cursor
     d = moved from (p + 1) (r .cursor .compares) false
 
-    hit-is : Match p d ≡ next from
-    hit-is = turn-found words text needle from at r led (g .same) t ∙ next-ended words text needle from (g .accepted)
+    match-is : Match p d ≡ next from
+    match-is = turn-found words text needle from at r led (g .same) t ∙ next-ended words text needle from (g .accepted)
 
-    hit-rest : inFront (g .found ++ p ∷ []) (fillFrom next (length list - (k + 1)) d) ≡ fillFrom next (length list) c
-    hit-rest = rw append-assoc (rw (places, ← hit-is) at (g .rest))
+    match-rest : inFront (g .found ++ p ∷ []) (fillFrom next (length list - (k + 1)) d) ≡ fillFrom next (length list) c
+    match-rest = rw append-assoc (rw (places, ← match-is) at (g .rest))
 
-    hit-size : length (g .found ++ p ∷ []) ≡ k + 1
-    hit-size = length-behind (g .found) p ∙ ap (λ (n : ℕ). n + 1) (g .size)
+    match-size : length (g .found ++ p ∷ []) ≡ k + 1
+    match-size = length-behind (g .found) p ∙ ap (λ (n : ℕ). n + 1) (g .size)
 
-    hit-list : set list' k p ≡ written (g .found ++ p ∷ []) list
-    hit-list = ap (λ (l : List ℕ). set l k p) (g .list-is) ∙ put-behind (g .found) list p k (g .size) (g .below)
+    match-list : set list' k p ≡ written (g .found ++ p ∷ []) list
+    match-list = ap (λ (l : List ℕ). set l k p) (g .list-is) ∙ put-behind (g .found) list p k (g .size) (g .below)
 
     -- the list is full
-    pub hit-full : k + 1 ≡ length list → (last : Next) → last ≡ ended from (matchAt p (r .cursor .compares))
+    pub match-full : k + 1 ≡ length list → (last : Next) → last ≡ ended from (matchAt p (r .cursor .compares))
         → Walks next c list (record { count = k + 1; last = last }) (set list' k p)
-    hit-full full last e =
+    match-full full last e =
         let none : length list - (k + 1) ≡ 0 = omega arith in
-        rw e (ends words text needle list c (g .found ++ p ∷ []) (k + 1) (set list' k p) (Match p d) hit-size hit-list (rw none at hit-rest) (λ h. hit-is ∙ ap next (g .one h)))
+        rw e (ends words text needle list c (g .found ++ p ∷ []) (k + 1) (set list' k p) (Match p d) match-size match-list (rw none at match-rest) (λ h. match-is ∙ ap next (g .one h)))
 
     -- there is a place left, and a is the cursor of the next match
     module _ (more : k + 1 < length list) (a : Cursor) (is : a ≡ d) where
       more-rest : inFront (g .found ++ p ∷ []) (fillFrom next (length list - (k + 1)) a) ≡ fillFrom next (length list) c
-      more-rest = rw is hit-rest
+      more-rest = rw is match-rest
 
       -- it is accepted
-      pub hit-on : refusal (length text) (length needle) a ≡ 0 → Going words text needle list c a a (k + 1) (set list' k p)
-      hit-on z = record {
+      pub match-on : refusal (length text) (length needle) a ≡ 0 → Going words text needle list c a a (k + 1) (set list' k p)
+      match-on z = record {
         found = g .found ++ p ∷ [];
-        size = hit-size;
+        size = match-size;
         below = more;
-        list-is = hit-list;
+        list-is = match-list;
         rest = more-rest;
         accepted = z;
         near = accepted-is (length text) (length needle) a z .position;
@@ -173,11 +175,11 @@ module _ {words : Bool} {text needle list : List ℕ} {c from at : Cursor} {k : 
       }
 
       -- it is refused
-      pub hit-stopped : (number : ℕ) → refusal (length text) (length needle) a ≡ number → 0 < number
+      pub match-stopped : (number : ℕ) → refusal (length text) (length needle) a ≡ number → 0 < number
           → Walks next c list (record { count = k + 1; last = Refused number a }) (set list' k p)
-      hit-stopped number e h =
+      match-stopped number e h =
           let left : length list - (k + 1) ≡ suc (length list - (k + 2)) = omega arith in
-          ends words text needle list c (g .found ++ p ∷ []) (k + 1) (set list' k p) (Refused number a) hit-size hit-list
+          ends words text needle list c (g .found ++ p ∷ []) (k + 1) (set list' k p) (Refused number a) match-size match-list
           (rw (left, next-refused words text needle a number e h) at more-rest)
           (λ w. absurd (omega arith))
 
@@ -185,7 +187,7 @@ module _ {words : Bool} {text needle list : List ℕ} {c from at : Cursor} {k : 
 
 module _ (words : Bool) (text needle : List ℕ) (c : Cursor) where
   -- nothing is written where the fill has no position
-  pub unwritten : (k : ℕ) (e : End) (list : List ℕ) (r : Filled) → fill words text needle k c ≡ fillOf [] c e → r ≡ answerOf (fillOf [] c e) → FillGiven (fill words text needle k c) list r list
+  pub unwritten : (k : ℕ) (e : End) (list : List ℕ) (r : Filled) → fill words text needle k c ≡ fillOf [] c e → r ≡ answerOf (fillOf [] c e) → FillAnswered (fill words text needle k c) list r list
   unwritten k e list r is h = rw (is, h) (record { answer = refl; list-after = refl })
 
   -- a refused call
@@ -203,7 +205,7 @@ module _ (words : Bool) (text needle : List ℕ) (c : Cursor) where
 
   -- a list with places is walked for
   pub walked : (list : List ℕ) (w : Walked) (list' : List ℕ) (r : Filled) → 0 < length list → Walks (nextMatch words text needle) c list w list' → r ≡ filledBy (w .count) (w .last)
-      → FillGiven (fill words text needle (length list) c) list r list'
+      → FillAnswered (fill words text needle (length list) c) list r list'
   unfolding fill
   walked list w list' r h walks e =
       let is = fill-is (length list) h in record {
@@ -214,3 +216,68 @@ module _ (words : Bool) (text needle : List ℕ) (c : Cursor) where
       fill-is : (k : ℕ) → 0 < k → fillFrom (nextMatch words text needle) k c ≡ fill words text needle k c
       fill-is zero g = absurd (omega arith)
       fill-is (suc k) g = refl
+
+-- ---- what stops a fill
+
+module _ (words : Bool) (text needle : List ℕ) where
+  abbrev nextOf : Cursor → Next
+  nextOf = nextMatch words text needle
+
+  -- no number but 23 refuses this cursor
+  abbrev Only23 : Cursor → Type 0
+  Only23 c = (number : ℕ) → refusal (length text) (length needle) c ≡ number → 0 < number → number ≡ 23
+
+  -- a match leaves such a cursor, and where it is asked for, no other number is given
+  abbrev Says23 : Bool → Next → Type 0
+  Says23 b (Match p d) = Only23 d
+  Says23 b (Absent d) = Unit {0}
+  Says23 true (Refused number d) = number ≡ 23
+  Says23 false (Refused number d) = Unit {0}
+
+  ended-23 : (b : Bool) (c : Cursor) → refusal (length text) (length needle) c ≡ 0 → (e : Ended) → WalkOk words text needle (c .position) e → Says23 b (accepted c e)
+  ended-23 b c z (nowhere k) ok = tt
+  ended-23 b c z (matchAt q k) ok = λ number e h.
+      let known = accepted-is (length text) (length needle) c z in
+      let d = cursorAt (q + 1) (c .compares + k) false in
+      let alone = compares-alone (length text) (length needle) d (known .text) (known .needle) refl (omega (arith, ok .0)) in
+      chosen (ltb mostCompares (d .compares)) number (sym alone ∙ e) h
+    where
+      chosen : (t : Bool) (number : ℕ) → cond t 23 0 ≡ number → 0 < number → number ≡ 23
+      chosen true number f h = sym f
+      chosen false number f h = absurd (omega arith)
+
+  says-23 : (b : Bool) (c : Cursor) → (b ≡ true → Only23 c) → Says23 b (nextOf c)
+  unfolding nextMatch
+  says-23 b c only = by-number b only (refusal (length text) (length needle) c) refl
+    where
+      by-number : (t : Bool) → (t ≡ true → Only23 c) → (r : ℕ) → refusal (length text) (length needle) c ≡ r → Says23 t (answered r c (walk words text needle))
+      by-number t o zero z = ended-23 t c z (walk words text needle (c .position)) (walk-ok words text needle (c .position))
+      by-number true o (suc r) z = o refl (suc r) z (omega arith)
+      by-number false o (suc r) z = tt
+
+  -- from such a cursor on, only 23 stops
+  later-23 : (k : ℕ) (c : Cursor) (number : ℕ) → Only23 c → fillFrom nextOf k c .end ≡ Stopped number → number ≡ 23
+  later-23 zero c number only e = cc
+  later-23 (suc k) c number only e = by-answer (nextOf c) (says-23 true c (λ _. only)) (λ d o f. later-23 k d number o f) e
+    where
+      by-answer : (x : Next) → Says23 true x → ((d : Cursor) → Only23 d → fillFrom nextOf k d .end ≡ Stopped number → number ≡ 23)
+          → afterNext (fillFrom nextOf k) x .end ≡ Stopped number → number ≡ 23
+      by-answer (Match p d) o rest f = rest d o f
+      by-answer (Absent d) o rest f = cc
+      by-answer (Refused r d) o rest f = cc
+
+  -- A number that stops a fill after some positions is 23.
+  pub stopped-by-23 : (k : ℕ) (c : Cursor) (number : ℕ) → fill words text needle k c .end ≡ Stopped number → 0 < length (fill words text needle k c .positions) → number ≡ 23
+  unfolding fill
+  stopped-by-23 zero c number e h = empty (refusal (length text) (length needle) c) h
+    where
+      empty : (r : ℕ) → 0 < length (emptyList c r .positions) → number ≡ 23
+      empty zero g = absurd (omega arith)
+      empty (suc r) g = absurd (omega arith)
+  stopped-by-23 (suc k) c number e h = by-answer (nextOf c) (says-23 false c (λ f. absurd (let z : _≡_ {A = ℕ} 0 1 = cc in omega arith))) e h
+    where
+      by-answer : (x : Next) → Says23 false x → afterNext (fillFrom nextOf k) x .end ≡ Stopped number
+          → 0 < length (afterNext (fillFrom nextOf k) x .positions) → number ≡ 23
+      by-answer (Match p d) o f g = later-23 k d number o f
+      by-answer (Absent d) o f g = absurd (omega arith)
+      by-answer (Refused r d) o f g = absurd (omega arith)

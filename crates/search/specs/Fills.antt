@@ -1,5 +1,6 @@
--- A fill: every match into one list (document 02 [1]: all hits into one list). It is next match
--- repeated, and nothing else. `End` and `Filled` are the types of src/lib.rt.
+-- A fill: the next matches into one list, as many as it has places for (document 02 [1]: all hits
+-- into one list). It is next match repeated, and nothing else. `End` and `Filled` are the types of
+-- src/lib.rt.
 use Prim.Native.Nat.{ℕ, zero, suc}
 use mathlib.Core.Path.{_≡_}
 use mathlib.Core.Bool.{Bool}
@@ -74,7 +75,7 @@ abbrev pub written : List ℕ → List ℕ → List ℕ
 written ps list = ps ++ drop (length ps) list
 
 -- a call with this list, its answer, and the list after it
-pub record FillGiven (f : Fill) (list : List ℕ) (r : Filled) (list' : List ℕ) : Type 0 where
+pub record FillAnswered (f : Fill) (list : List ℕ) (r : Filled) (list' : List ℕ) : Type 0 where
   pub answer : r ≡ answerOf f
   pub list-after : list' ≡ written (f .positions) list
 

@@ -10,7 +10,7 @@ ghost use mathlib.Core.Path.{_≡_};
 ghost use lib.ListN.{length};
 ghost use Rattle.unit.specs.Operand.{inBytes};
 ghost use Rattle.search.specs.Cursors.{nextMatch};
-ghost use Rattle.search.specs.Fills.{FillGiven, fill};
+ghost use Rattle.search.specs.Fills.{FillAnswered, fill};
 ghost use Rattle.search.specs.Moves.{Led, Room, Steppable, Walkable, Walks, laterAt, rested};
 
 impl Cursor {
@@ -29,8 +29,9 @@ impl Cursor {
         self.rested(agreeing as u64, ((m - l + 15) / 16) as u64)
     }
 
-    // One step of the walk or more. Whole blocks go by a scan, up to e, so that each leaves room
-    // for the needle; less than one is the text's end. `first` is the operand of the first l bytes.
+    // One step of the walk or more. An empty needle is found where it is. Whole blocks go by a scan,
+    // up to e, so that each leaves room for the needle; less than one is the text's end. `first` is
+    // the operand of the first l bytes.
     fn step_in_bytes(self, text: &[u8], needle: &[u8], first: &[u8; 16], l: usize) -> Stepped
         requires { ⌜ Steppable inBytes (now text) (now needle) (now first) l self ⌝ }
         ensures { λ r. ⌜ Led inBytes (now (text .entry)) (now (needle .entry)) self r ⌝ }
@@ -57,8 +58,9 @@ impl Cursor {
         at.stepped(false, s.index as u64, at.compares + 1)
     }
 
-    // The walk from the cursor's position, on past each match until the list is full. The needle's
-    // first piece has l bytes; its operand is made once.
+    // The walk from the cursor's position, on past each match until the list is full or a number
+    // stops it. `from` is the cursor of the match that is looked for, `at` how far its walk has
+    // got. The needle's first piece has l bytes; its operand is made once.
     fn walk_in_bytes(self, text: &[u8], needle: &[u8], l: usize, positions: &mut [u64]) -> Walked
         requires { ⌜ Walkable inBytes (now text) (now needle) l self (now positions) ⌝ }
         ensures { λ r. ⌜ Walks (nextMatch inBytes (now (text .entry)) (now (needle .entry))) self
@@ -116,15 +118,15 @@ impl Cursor {
 
     // The next matches of a needle of bytes, as many as the list has places for (document 02 [1]).
     pub fn fill_in_bytes(self, text: &[u8], needle: &[u8], positions: &mut [u64]) -> Filled
-        ensures { λ r. ⌜ FillGiven
+        ensures { λ r. ⌜ FillAnswered
             (fill inBytes (now (text .entry)) (now (needle .entry))
             (length (now (positions .entry))) self)
             (now (positions .entry)) r (now (positions .exit)) ⌝ }
     {
-        let stop = self.refusal(text.len(), needle.len());
+        let refused = self.refusal(text.len(), needle.len());
         let places = positions.len();
-        if stop > 0 {
-            return Next::Refused(stop, self).filled(0);
+        if refused > 0 {
+            return Next::Refused(refused, self).filled(0);
         }
         if places == 0 {
             return Filled {

@@ -5,7 +5,7 @@ use lib.ListN.{length}
 use borrow.Author.Needs.{needs}
 use Rattle.unit.specs.Operand.{inWords}
 use Rattle.search.specs.declared.Cursor.{Cursor}
-use Rattle.search.specs.Fills.{fill, FillGiven}
+use Rattle.search.specs.Fills.{fill, FillAnswered}
 use Rattle.capi.specs.Crossing.{cursorOf}
 use Rattle.capi.proofs.Crossings.{fill-handed}
 use Rattle.capi.proofs.walk.hx_fill_in_words.Statement.{statement}
@@ -16,7 +16,7 @@ returns c =
     let a = c .before .before .before .before .before .before .before .before .before .before .before .before .args in
     let f = c .before .before .before .before .before in
     let k = length (a .positions .now) in
-    let told = subst (λ (x : Cursor). FillGiven (fill inWords (a .text .now) (a .needle .now) k x) (a .positions .now) (f .fill-in-words .result) (f .fill-in-words .last .1 .1 .1 .0)) (f .before .before .cursor-of .ensures) (f .fill-in-words .ensures) in
+    let told = subst (λ (x : Cursor). FillAnswered (fill inWords (a .text .now) (a .needle .now) k x) (a .positions .now) (f .fill-in-words .result) (f .fill-in-words .last .1 .1 .1 .0)) (f .before .before .cursor-of .ensures) (f .fill-in-words .ensures) in
     fill-handed (fill inWords (a .text .now) (a .needle .now) k (cursorOf (a .cursor .now))) (f .fill-in-words .result) (a .cursor .now) (a .positions .now) (a .count .now) (c .give-filled .result) (c .give-filled .last .1 .0) _ (c .give-filled .last .1 .1 .0) told (c .give-filled .ensures)
 
 pub hx-fill-in-words-spec : {M : Type 1} → statement M

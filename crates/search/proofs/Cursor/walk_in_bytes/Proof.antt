@@ -10,7 +10,7 @@ use Rattle.search.specs.declared.Cursor.{Cursor}
 use Rattle.blocks.proofs.Operands.{filled-zeros}
 use Rattle.search.proofs.Refusals.{Accepted, accepted-is}
 use Rattle.search.proofs.Turns.{total-few}
-use Rattle.search.proofs.Fills.{Going, going-length, going-on, going-past, going-start, hit-full, hit-on, hit-stopped, put-length}
+use Rattle.search.proofs.Fills.{Going, going-length, going-on, going-past, going-start, match-full, match-on, match-stopped, put-length}
 use Rattle.search.proofs.Cursor.walk_in_bytes.Statement.{statement}
 use Rattle.search.proofs.Cursor.walk_in_bytes.Tie as tie
 
@@ -71,7 +71,7 @@ returns : tie.Need-returns Inv-loop μ-loop
 returns c =
     let t = c .before .before .before .before in
     let g = at-loop t .loop .inv in
-    hit-full g (t .step-in-bytes .result) (t .step-in-bytes .ensures) (c .before .before .if1 .taken) (omega (arith, put-length g (t .step-in-bytes .result .cursor .position))) (c .matched .result) (c .matched .ensures)
+    match-full g (t .step-in-bytes .result) (t .step-in-bytes .ensures) (c .before .before .if1 .taken) (omega (arith, put-length g (t .step-in-bytes .result .cursor .position))) (c .matched .result) (c .matched .ensures)
 
 add-moved : tie.Need-add-moved Inv-loop μ-loop
 add-moved c =
@@ -87,7 +87,7 @@ returns-2 : tie.Need-returns-2 Inv-loop μ-loop
 returns-2 c =
     let t = c .before .before .before .before .before .before .before in
     let g = at-loop t .loop .inv in
-    hit-stopped g (t .step-in-bytes .result) (t .step-in-bytes .ensures) (c .before .before .before .before .before .if1 .taken) (omega (arith, put-length g (t .step-in-bytes .result .cursor .position), g .below)) (c .before .before .moved .result) (c .before .before .moved .ensures) (c .before .refusal .result) (sym (c .before .refusal .ensures)) (omega arith)
+    match-stopped g (t .step-in-bytes .result) (t .step-in-bytes .ensures) (c .before .before .before .before .before .if1 .taken) (omega (arith, put-length g (t .step-in-bytes .result .cursor .position), g .below)) (c .before .before .moved .result) (c .before .before .moved .ensures) (c .before .refusal .result) (sym (c .before .refusal .ensures)) (omega arith)
 
 loop-less : tie.Need-loop-less Inv-loop μ-loop
 loop-less c =
@@ -99,7 +99,7 @@ loop-again : tie.Need-loop-again Inv-loop μ-loop
 loop-again c =
     let t = c .before .before .before .before .before .before .before in
     let g = at-loop t .loop .inv in
-    hit-on g (t .step-in-bytes .result) (t .step-in-bytes .ensures) (c .before .before .before .before .before .if1 .taken) (omega (arith, put-length g (t .step-in-bytes .result .cursor .position), g .below)) (c .before .before .moved .result) (c .before .before .moved .ensures) (sym (c .before .refusal .ensures) ∙ omega arith)
+    match-on g (t .step-in-bytes .result) (t .step-in-bytes .ensures) (c .before .before .before .before .before .if1 .taken) (omega (arith, put-length g (t .step-in-bytes .result .cursor .position), g .below)) (c .before .before .moved .result) (c .before .before .moved .ensures) (sym (c .before .refusal .ensures) ∙ omega arith)
 
 -- no match yet
 loop-less-2 : tie.Need-loop-less-2 Inv-loop μ-loop
