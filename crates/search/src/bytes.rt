@@ -29,9 +29,9 @@ impl Cursor {
         self.rested(agreeing as u64, ((m - l + 15) / 16) as u64)
     }
 
-    // One step of the walk or more. An empty needle is found where it is. Whole blocks go by a scan,
-    // up to e, so that each leaves room for the needle; less than one is the text's end. `first` is
-    // the operand of the first l bytes.
+    // One step of the walk or more. An empty needle is found where it is. Whole blocks go by a
+    // scan, up to e, so that each leaves room for the needle; less than one is the text's end.
+    // `first` is the operand of the first l bytes.
     fn step_in_bytes(self, text: &[u8], needle: &[u8], first: &[u8; 16], l: usize) -> Stepped
         requires { ⌜ Steppable inBytes (now text) (now needle) (now first) l self ⌝ }
         ensures { λ r. ⌜ Led inBytes (now (text .entry)) (now (needle .entry)) self r ⌝ }

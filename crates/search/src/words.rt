@@ -29,9 +29,9 @@ impl Cursor {
         self.rested(agreeing as u64, ((m - l + 7) / 8) as u64)
     }
 
-    // One step of the walk or more. An empty needle is found where it is. Whole blocks go by a scan,
-    // up to e, so that each leaves room for the needle; less than one is the text's end. `first` is
-    // the operand of the first l words.
+    // One step of the walk or more. An empty needle is found where it is. Whole blocks go by a
+    // scan, up to e, so that each leaves room for the needle; less than one is the text's end.
+    // `first` is the operand of the first l words.
     fn step_in_words(self, text: &[u16], needle: &[u16], first: &[u8; 16], l: usize) -> Stepped
         requires { ⌜ Steppable inWords (now text) (now needle) (now first) l self ⌝ }
         ensures { λ r. ⌜ Led inWords (now (text .entry)) (now (needle .entry)) self r ⌝ }
