@@ -51,6 +51,7 @@ least-is x n h = omega arith
 -- leaves room for the needle, and the first is whole.
 pub record Scanning (words : Bool) (text needle first : List ℕ) (l : ℕ) (c : Cursor) (e : ℕ) (s : Scanned) : Type 0 where
   pub ready : Ready words text needle first l c
+  pub some : 0 < length needle
   pub end : e ≡ length text - (length needle - l)
   pub whole : count words ≤ e - c .position
   pub is : s ≡ scanOf words first l (take (e - c .position) (drop (c .position) text))
@@ -66,7 +67,7 @@ module _ {words : Bool} {text needle first : List ℕ} {l : ℕ} {c : Cursor} {e
   part = take (e - p) (drop p text)
 
   some : 0 < length needle
-  some = scan .ready .searchable .some
+  some = scan .some
 
   size : length part ≡ e - p
   size = rw (length-take, length-drop) (omega (arith, scan .ready .room, scan .ready .size, scan .end))

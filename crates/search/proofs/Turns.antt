@@ -18,7 +18,7 @@ use Rattle.search.specs.declared.Cursor.{Cursor}
 use Rattle.search.specs.declared.Stepped.{Stepped}
 use Rattle.search.specs.Walk.{Later, noneDiffers, oneDiffers, more, ordered, here, onward, afterLater, step, Ended, matchAt, nowhere, plus, walk}
 use Rattle.search.specs.Cursors.{longestNeedle, mostCompares, refusal, accepted, nextMatch}
-use Rattle.search.specs.Moves.{Led, Ready, Steppable, ended, from, laterAt, manyCompares, rested, steppedBy, total}
+use Rattle.search.specs.Moves.{Led, Ready, ended, from, laterAt, manyCompares, rested, steppedBy, total}
 use Rattle.search.proofs.Pieces.{later-end, more-none}
 use Rattle.search.proofs.Steps.{first-called, first-most, first-within, step-empty, step-fits, step-index, step-none, step-past}
 use Rattle.search.proofs.Walks.{plus-plus, walk-here, walk-past, walk-onward, walkCompares, walk-few}
@@ -62,18 +62,8 @@ module _ (words : Bool) (text needle : List ℕ) (c : Cursor) where
   pub led-empty : length needle ≡ 0 → c .position ≤ length text → Led words text needle c (steppedBy c true 0 (c .compares))
   led-empty z h = rw (add-zero (c .compares)) at (led-here 0 (step-empty words text needle (c .position) z h) h)
 
--- what a step of a needle that is not empty has
-pub ready : (words : Bool) (text needle first : List ℕ) (l : ℕ) (c : Cursor) → Steppable words text needle first l c → 0 < length needle → Ready words text needle first l c
-ready words text needle first l c s some = record {
-  searchable = record { small = s .small; short = s .short; some = some };
-  room = s .room;
-  few = s .few;
-  size = s .size;
-  operand = s .operand;
-}
-
 -- The block at the text's end, shorter than a whole one: k is the index of its compare.
-module _ (words : Bool) (text needle first : List ℕ) (l : ℕ) (c : Cursor) (ready : Ready words text needle first l c) (e k : ℕ) (o : List ℕ) where
+module _ (words : Bool) (text needle first : List ℕ) (l : ℕ) (c : Cursor) (ready : Ready words text needle first l c) (some : 0 < length needle) (e k : ℕ) (o : List ℕ) where
   abbrev p : ℕ
   p = c .position
 
@@ -82,7 +72,6 @@ module _ (words : Bool) (text needle first : List ℕ) (l : ℕ) (c : Cursor) (r
       → o ≡ operandOf words (take (e - p) (drop p text))
       → Led words text needle c (steppedBy c (eqb k 0) (min k (e - p)) (c .compares + 1))
   led-short end less is ho =
-      let some = ready .searchable .some in
       let room = ready .room in
       let size = ready .size in
       let b = count words in

@@ -27,11 +27,10 @@ use Rattle.search.specs.Walk.{Later, noneDiffers, oneDiffers, later, End
 abbrev pub manyCompares : ℕ
 manyCompares = 2199023255552
 
--- a text and a needle within their limits, the needle not empty
+-- a text and a needle within their limits
 pub record Searchable (text needle : List ℕ) : Type 0 where
   pub small : length text ≤ longestText
   pub short : length needle ≤ longestNeedle
-  pub some : 0 < length needle
 
 -- The cursor's position leaves room for the needle, whose first piece has l elements; its compares
 -- are few, those of a scan counted.
@@ -41,19 +40,9 @@ pub record Room (words : Bool) (text needle : List ℕ) (l : ℕ) (c : Cursor) :
   pub few : c .compares ≤ manyCompares + longestText
   pub size : l ≡ min (count words) (length needle)
 
--- The same before a scan; `first` is the operand of the needle's first piece.
+-- The same before a step; `first` is the operand of the needle's first piece.
 pub record Ready (words : Bool) (text needle first : List ℕ) (l : ℕ) (c : Cursor) : Type 0 where
   pub searchable : Searchable text needle
-  pub room : c .position + length needle ≤ length text
-  pub few : c .compares ≤ manyCompares
-  pub size : l ≡ min (count words) (length needle)
-  pub operand : first ≡ operandOf words (take l needle)
-
--- The same for a step, where the needle may be empty.
-pub record Steppable (words : Bool) (text needle first : List ℕ) (l : ℕ) (c : Cursor)
-    : Type 0 where
-  pub small : length text ≤ longestText
-  pub short : length needle ≤ longestNeedle
   pub room : c .position + length needle ≤ length text
   pub few : c .compares ≤ manyCompares
   pub size : l ≡ min (count words) (length needle)

@@ -11,7 +11,7 @@ ghost use lib.ListN.{length};
 ghost use Rattle.unit.specs.Operand.{inBytes};
 ghost use Rattle.search.specs.Cursors.{nextMatch};
 ghost use Rattle.search.specs.Fills.{FillAnswered, fill};
-ghost use Rattle.search.specs.Moves.{Led, Room, Steppable, Walkable, Walks, laterAt, rested};
+ghost use Rattle.search.specs.Moves.{Led, Ready, Room, Walkable, Walks, laterAt, rested};
 
 impl Cursor {
     // The cursor after the needle's later pieces, where its first l bytes stand at the cursor's
@@ -33,7 +33,7 @@ impl Cursor {
     // scan, up to e, so that each leaves room for the needle; less than one is the text's end.
     // `first` is the operand of the first l bytes.
     fn step_in_bytes(self, text: &[u8], needle: &[u8], first: &[u8; 16], l: usize) -> Stepped
-        requires { ⌜ Steppable inBytes (now text) (now needle) (now first) l self ⌝ }
+        requires { ⌜ Ready inBytes (now text) (now needle) (now first) l self ⌝ }
         ensures { λ r. ⌜ Led inBytes (now (text .entry)) (now (needle .entry)) self r ⌝ }
     {
         if needle.len() == 0 {

@@ -9,7 +9,7 @@ use borrow.Author.Needs.{needs}
 use Rattle.unit.specs.Operand.{inBytes}
 use Rattle.search.specs.Moves.{steppedBy}
 use Rattle.search.proofs.Scans.{Scanning, blocks-within, index-below, led-over, led-place, led-zero, past-few, past-ready, past-small}
-use Rattle.search.proofs.Turns.{led-empty, led-short, ready}
+use Rattle.search.proofs.Turns.{led-empty, led-short}
 use Rattle.search.proofs.Cursor.step_in_bytes.Statement.{statement}
 use Rattle.search.proofs.Cursor.step_in_bytes.Tie as tie
 
@@ -23,7 +23,7 @@ at-scan c = c .before .before .before
 scanning : (c : tie.After-scan)
     → let a = at-entry c .args in
     Scanning inBytes (a .text .now) (a .needle .now) (a .first .now) (a .l) (a .self) (length (a .text .now) - (length (a .needle .now) - a .l)) (c .scan .result)
-scanning c = record { ready = ready _ _ _ _ _ _ (at-entry c .pre) (omega arith); end = refl; whole = c .before .before .before .if2 .left; is = c .scan .ensures }
+scanning c = record { ready = at-entry c .pre; some = omega arith; end = refl; whole = c .before .before .before .if2 .left; is = c .scan .ensures }
 
 -- the empty needle
 returns : tie.Need-returns
@@ -40,19 +40,19 @@ returns-2 c =
     let a = s .args in
     let by = c .before .before .min .ensures in
     let r = c .stepped2 .ensures ∙ ap (λ (n : ℕ). steppedBy (a .self) (eqb (k .pcmpestri-0c .result) 0) n (a .self .compares + 1)) by in
-    rw r (led-short inBytes (a .text .now) (a .needle .now) (a .first .now) (a .l) (a .self) (ready _ _ _ _ _ _ (s .pre) (omega arith)) _ (k .pcmpestri-0c .result) _ refl (omega arith) (k .pcmpestri-0c .ensures) (k .before .padded-bytes .ensures))
+    rw r (led-short inBytes (a .text .now) (a .needle .now) (a .first .now) (a .l) (a .self) (s .pre) (omega arith) _ (k .pcmpestri-0c .result) _ refl (omega arith) (k .pcmpestri-0c .ensures) (k .before .padded-bytes .ensures))
 
 -- the cursor past the scan's blocks
 mul-moved : tie.Need-mul-moved
-mul-moved c = omega (arith, blocks-within (scanning c), at-entry c .pre .small)
+mul-moved c = omega (arith, blocks-within (scanning c), at-entry c .pre .searchable .small)
 
 add-moved : tie.Need-add-moved
-add-moved c = let k = c .before in omega (arith, blocks-within (scanning k), at-entry k .pre .small)
+add-moved c = let k = c .before in omega (arith, blocks-within (scanning k), at-entry k .pre .searchable .small)
 
 add-moved-2 : tie.Need-add-moved-2
 add-moved-2 c =
     let k = c .before .before in
-    omega (arith, blocks-within (scanning k), at-entry k .pre .small, at-entry k .pre .few)
+    omega (arith, blocks-within (scanning k), at-entry k .pre .searchable .small, at-entry k .pre .few)
 
 -- index 0
 rest-in-bytes-requires : tie.Need-rest-in-bytes-requires

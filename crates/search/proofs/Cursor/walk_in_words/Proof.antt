@@ -19,12 +19,19 @@ Inv-loop text needle l positions₀ n m first from₀ at₀ k₀ positions from 
 abbrev μ-loop : tie.MeasureT-loop
 μ-loop text needle l positions₀ n m first from₀ at₀ k₀ positions from at k = length text + 2 - at .position
 
--- the places: what the function was handed, the loop's head, a step, and the steps after a match
+-- The places: what the function was handed, the loop's head, a step, the needle found by it, and
+-- the test of the cursor after that match.
 abbrev at-entry : tie.At-loop Inv-loop μ-loop → tie.Start Inv-loop μ-loop
 at-entry c = c .before .before .before .before .before .before
 
 abbrev at-loop : tie.After-step-in-words Inv-loop μ-loop → tie.At-loop Inv-loop μ-loop
 at-loop c = c .before .before .before
+
+abbrev at-step : tie.Then1 Inv-loop μ-loop → tie.After-step-in-words Inv-loop μ-loop
+at-step c = c .before .before
+
+abbrev at-found : tie.After-refusal Inv-loop μ-loop → tie.Then1 Inv-loop μ-loop
+at-found c = c .before .before .before .before
 
 -- what the cursor of the present match tells
 limits : (c : tie.At-loop Inv-loop μ-loop) → Accepted (length (at-entry c .args .text .now)) (length (at-entry c .args .needle .now)) (c .loop .from)
@@ -42,8 +49,7 @@ step-in-words-requires c κs =
     let s = at-entry o in
     let a = s .args in
     let k = limits o in record {
-      small = k .text;
-      short = k .needle;
+      searchable = record { small = k .text; short = k .needle };
       room = omega arith;
       few = total-few inWords (a .text .now) (a .needle .now) (o .loop .from) (o .loop .at) (o .loop .inv .same) (k .text) (k .needle) (k .compares);
       size = s .pre .size;
@@ -53,52 +59,59 @@ step-in-words-requires c κs =
 -- a match
 slice-write-positions : tie.Need-slice-write-positions Inv-loop μ-loop
 slice-write-positions c =
-    let o = at-loop (c .before .before) in
-    omega (arith, going-length (o .loop .inv), o .loop .inv .below)
+    let g = at-loop (at-step c) .loop .inv in
+    omega (arith, going-length g, g .below)
 
 matched-requires : tie.Need-matched-requires Inv-loop μ-loop
 matched-requires c κs =
-    let t = c .before .before .before in
+    let t = at-step (c .before) in
     omega (arith, t .step-in-words .ensures .near, limits (at-loop t) .text)
 
 same-length : tie.Need-same-length Inv-loop μ-loop
-same-length c =
-    let o = at-loop (c .before .before .before .before) in
-    put-length (o .loop .inv) _
+same-length c = put-length (at-loop (at-step (c .before .before)) .loop .inv) _
 
 returns : tie.Need-returns Inv-loop μ-loop
 returns c =
-    let t = c .before .before .before .before in
+    let f = c .before .before in
+    let t = at-step f in
     let g = at-loop t .loop .inv in
-    match-full g (t .step-in-words .result) (t .step-in-words .ensures) (c .before .before .if1 .taken) (omega (arith, put-length g (t .step-in-words .result .cursor .position))) (c .matched .result) (c .matched .ensures)
+    match-full g (t .step-in-words .result) (t .step-in-words .ensures) (f .if1 .taken)
+    (omega (arith, put-length g (t .step-in-words .result .cursor .position)))
+    (c .matched .result) (c .matched .ensures)
 
 add-moved : tie.Need-add-moved Inv-loop μ-loop
 add-moved c =
-    let t = c .before .before .before .before in
+    let t = at-step (c .before .before) in
     omega (arith, t .step-in-words .ensures .near, limits (at-loop t) .text)
 
 same-length-2 : tie.Need-same-length-2 Inv-loop μ-loop
-same-length-2 c =
-    let o = at-loop (c .before .before .before .before .before .before .before) in
-    put-length (o .loop .inv) _
+same-length-2 c = put-length (at-loop (at-step (at-found (c .before))) .loop .inv) _
 
 returns-2 : tie.Need-returns-2 Inv-loop μ-loop
 returns-2 c =
-    let t = c .before .before .before .before .before .before .before in
+    let o = c .before in
+    let f = at-found o in
+    let t = at-step f in
     let g = at-loop t .loop .inv in
-    match-stopped g (t .step-in-words .result) (t .step-in-words .ensures) (c .before .before .before .before .before .if1 .taken) (omega (arith, put-length g (t .step-in-words .result .cursor .position), g .below)) (c .before .before .moved .result) (c .before .before .moved .ensures) (c .before .refusal .result) (sym (c .before .refusal .ensures)) (omega arith)
+    match-stopped g (t .step-in-words .result) (t .step-in-words .ensures) (f .if1 .taken)
+    (omega (arith, put-length g (t .step-in-words .result .cursor .position), g .below))
+    (o .before .moved .result) (o .before .moved .ensures) (o .refusal .result) (sym (o .refusal .ensures)) (omega arith)
 
 loop-less : tie.Need-loop-less Inv-loop μ-loop
 loop-less c =
-    let t = c .before .before .before .before .before .before .before in
-    let at = c .before .before .moved .ensures in
-    omega (arith, t .step-in-words .ensures .ahead, t .step-in-words .ensures .near, ap (λ (a : Cursor). a .position) at)
+    let o = c .before in
+    let t = at-step (at-found o) in
+    omega (arith, t .step-in-words .ensures .ahead, t .step-in-words .ensures .near, ap (λ (a : Cursor). a .position) (o .before .moved .ensures))
 
 loop-again : tie.Need-loop-again Inv-loop μ-loop
 loop-again c =
-    let t = c .before .before .before .before .before .before .before in
+    let o = c .before in
+    let f = at-found o in
+    let t = at-step f in
     let g = at-loop t .loop .inv in
-    match-on g (t .step-in-words .result) (t .step-in-words .ensures) (c .before .before .before .before .before .if1 .taken) (omega (arith, put-length g (t .step-in-words .result .cursor .position), g .below)) (c .before .before .moved .result) (c .before .before .moved .ensures) (sym (c .before .refusal .ensures) ∙ omega arith)
+    match-on g (t .step-in-words .result) (t .step-in-words .ensures) (f .if1 .taken)
+    (omega (arith, put-length g (t .step-in-words .result .cursor .position), g .below))
+    (o .before .moved .result) (o .before .moved .ensures) (sym (o .refusal .ensures) ∙ omega arith)
 
 -- no match yet
 loop-less-2 : tie.Need-loop-less-2 Inv-loop μ-loop
