@@ -12,7 +12,8 @@
  *   no more match, and HX_FULL, 257, that the list of a fill is full. A fill never returns 0.
  * - A refused call returns the number of the refusal, one of HX_.._REFUSED below
  *   (docs/REFUSALS.md). It writes nothing: what stood behind each pointer still stands there.
- *   Where several numbers apply, it returns the lowest; only hx_report tests 7, 6, 3.
+ *   Where several numbers apply, it returns the lowest; only hx_report tests 7, 6, 3, and the
+ *   searches test 31 before 22.
  * - A fill alone may return one of them and yet have written: HX_COMPARES_REFUSED, 23, can stop it
  *   after some matches. It is not refused then; by *count a caller sees which it was.
  * - Six functions refuse nothing and return no such number: hx_pcmpestri_0c and its three siblings
@@ -47,9 +48,10 @@ extern "C" {
 #define HX_INPUT_REFUSED 7u      /* a report's input above 65,536 bytes */
 #define HX_WIDTH_REFUSED 8u      /* a column's width of 0, above 20, or below the count of digits */
 #define HX_EXHAUSTED_REFUSED 21u /* the cursor is exhausted */
-#define HX_POSITION_REFUSED 22u  /* the cursor's position is above the text's length + 1 */
+#define HX_POSITION_REFUSED 22u  /* the cursor's position is above its stop + 1 */
 #define HX_COMPARES_REFUSED 23u  /* the cursor has more than 1,099,511,627,776 compares */
 #define HX_BUFFER_REFUSED 24u    /* a buffer shorter than the column's width */
+#define HX_STOP_REFUSED 31u      /* the cursor's stop is above the text's length; before 22 */
 
 /* ---- limits ---- */
 
@@ -125,7 +127,7 @@ uint32_t hx_pcmpestri_19(const uint8_t operand1[16], size_t length1, const uint8
  *     hx_cursor cursor;
  *     uint64_t position;
  *     uint32_t status;
- *     hx_cursor_fresh(&cursor);
+ *     hx_cursor_fresh(&cursor, n);
  *     while ((status = hx_next_in_bytes(&cursor, text, n, needle, m, &position)) == HX_MATCH)
  *         printf("%" PRIu64 "\n", position);
  *     if (status != HX_ABSENT)
@@ -135,7 +137,7 @@ uint32_t hx_pcmpestri_19(const uint8_t operand1[16], size_t length1, const uint8
  *
  *     uint64_t positions[256];
  *     size_t count;
- *     hx_cursor_fresh(&cursor);
+ *     hx_cursor_fresh(&cursor, n);
  *     do {
  *         count = 0; // a refused call leaves it as it is
  *         status = hx_fill_in_bytes(&cursor, text, n, needle, m, positions, 256, &count);
@@ -149,6 +151,11 @@ uint32_t hx_pcmpestri_19(const uint8_t operand1[16], size_t length1, const uint8
  * first, none skipped or repeated, then HX_ABSENT once, then HX_EXHAUSTED_REFUSED. An empty needle
  * stands at 0 up to the text's length. Next matches and fills of any size may be mixed, each with
  * the cursor of the last: they give the same positions in the same order.
+ *
+ * A cursor carries its stop, given when it is made: the search is that of the text's first stop
+ * elements. With a stop of n it is that of the whole text, as above. With a lower one no match ends
+ * past it, the text from there on is not read, and nothing there changes an answer: what is said
+ * of the text's end then holds for the stop.
  */
 
 /* Where a list of calls has got to. Any numbers may stand here; each cursor is answered or
@@ -157,21 +164,24 @@ typedef struct hx_cursor {
     uint64_t position;  /* where the next call begins */
     uint64_t compares;  /* the compares of all calls so far */
     uint64_t exhausted; /* 0: not exhausted. A call writes 0 or 1; any number but 0 is read as 1. */
+    uint64_t stop;      /* where the search ends; no call changes it */
 } hx_cursor;
 
 #define HX_MATCH 0u
 #define HX_ABSENT 256u /* above every refusal's number */
 #define HX_FULL 257u   /* the list of a fill is full */
 
-/* Writes the cursor of a first call: 0, 0, 0. It refuses nothing. */
-void hx_cursor_fresh(hx_cursor *cursor);
+/* Writes the cursor of a first call: 0, 0, 0 and the stop, at most the length of the text that is
+ * to be searched. It refuses nothing: the calls that search do. */
+void hx_cursor_fresh(hx_cursor *cursor, uint64_t stop);
 
 /* Looks for the next match, from cursor->position on. An accepted call adds its compares to the
  * cursor's. They return
  *   HX_MATCH: *position is where the needle stands, and the cursor's position is the next one;
  *   HX_ABSENT: there is no more match; the cursor is exhausted, its position and *position stay;
- *   a refusal: HX_TEXT_REFUSED, HX_NEEDLE_REFUSED, HX_EXHAUSTED_REFUSED, HX_POSITION_REFUSED or
- *     HX_COMPARES_REFUSED; all of *cursor and *position stay. */
+ *   a refusal, tested in this order: HX_TEXT_REFUSED, HX_NEEDLE_REFUSED, HX_EXHAUSTED_REFUSED,
+ *     HX_STOP_REFUSED, HX_POSITION_REFUSED, HX_COMPARES_REFUSED; all of *cursor and *position
+ *     stay. */
 uint32_t hx_next_in_bytes(hx_cursor *cursor, const uint8_t *text, size_t text_length,
                           const uint8_t *needle, size_t needle_length, uint64_t *position);
 uint32_t hx_next_in_words(hx_cursor *cursor, const uint16_t *text, size_t text_length,
@@ -190,8 +200,9 @@ uint32_t hx_next_in_words(hx_cursor *cursor, const uint16_t *text, size_t text_l
  *   HX_COMPARES_REFUSED after some matches: stopped, as the cursor has too many compares by then.
  *     *count were found, and *cursor is the one after them;
  *   a refusal, before the first match: HX_TEXT_REFUSED, HX_NEEDLE_REFUSED, HX_EXHAUSTED_REFUSED,
- *     HX_POSITION_REFUSED or HX_COMPARES_REFUSED; all of *cursor, *count and the list stay.
- * So HX_COMPARES_REFUSED is a stop or a refusal. Set *count to 0 before the call: stopped, it is
+ *     HX_STOP_REFUSED, HX_POSITION_REFUSED or HX_COMPARES_REFUSED, as of next match; all of
+ *     *cursor, *count and the list stay.
+ * So HX_COMPARES_REFUSED means stopped or refused. Set *count to 0 before the call: stopped, it is
  * above 0 after it; refused, it still is 0. Calls over one text and needle that began with a fresh
  * cursor never come to so many compares. */
 uint32_t hx_fill_in_bytes(hx_cursor *cursor, const uint8_t *text, size_t text_length,

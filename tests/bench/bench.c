@@ -67,7 +67,8 @@ static inline uint32_t refusal(const hx_cursor *c, size_t n, size_t m) {
     if (n > HX_LONGEST_TEXT) return HX_TEXT_REFUSED;
     if (m > HX_LONGEST_NEEDLE) return HX_NEEDLE_REFUSED;
     if (c->exhausted) return HX_EXHAUSTED_REFUSED;
-    if (c->position > n + 1) return HX_POSITION_REFUSED;
+    if (c->stop > n) return HX_STOP_REFUSED;
+    if (c->position > c->stop + 1) return HX_POSITION_REFUSED;
     if (c->compares > HX_MOST_COMPARES) return HX_COMPARES_REFUSED;
     return 0;
 }
@@ -138,7 +139,7 @@ __attribute__((noinline)) static uint32_t real_next_in_bytes(hx_cursor *c, const
     uint32_t number = refusal(c, n, m);
     if (number) return number;
     int l = m < 16 ? (int)m : 16;
-    return real_walk_in_bytes(c, text, n, needle, m, first_in_bytes(needle, l), l, position);
+    return real_walk_in_bytes(c, text, c->stop, needle, m, first_in_bytes(needle, l), l, position);
 }
 
 __attribute__((noinline)) static uint32_t real_fill_in_bytes(hx_cursor *cursor, const uint8_t *text, size_t n, const uint8_t *needle, size_t m, uint64_t *positions, size_t length, size_t *count) {
@@ -152,7 +153,7 @@ __attribute__((noinline)) static uint32_t real_fill_in_bytes(hx_cursor *cursor, 
     while (k < length) {
         end = refusal(&c, n, m);
         if (end) break;
-        end = real_walk_in_bytes(&c, text, n, needle, m, first, l, &positions[k]);
+        end = real_walk_in_bytes(&c, text, c.stop, needle, m, first, l, &positions[k]);
         if (end) break;
         k++;
         end = HX_FULL;
@@ -228,7 +229,7 @@ __attribute__((noinline)) static uint32_t real_next_in_words(hx_cursor *c, const
     uint32_t number = refusal(c, n, m);
     if (number) return number;
     int l = m < 8 ? (int)m : 8;
-    return real_walk_in_words(c, text, n, needle, m, first_in_words(needle, l), l, position);
+    return real_walk_in_words(c, text, c->stop, needle, m, first_in_words(needle, l), l, position);
 }
 
 __attribute__((noinline)) static uint32_t real_fill_in_words(hx_cursor *cursor, const uint16_t *text, size_t n, const uint16_t *needle, size_t m, uint64_t *positions, size_t length, size_t *count) {
@@ -242,7 +243,7 @@ __attribute__((noinline)) static uint32_t real_fill_in_words(hx_cursor *cursor, 
     while (k < length) {
         end = refusal(&c, n, m);
         if (end) break;
-        end = real_walk_in_words(&c, text, n, needle, m, first, l, &positions[k]);
+        end = real_walk_in_words(&c, text, c.stop, needle, m, first, l, &positions[k]);
         if (end) break;
         k++;
         end = HX_FULL;
@@ -260,7 +261,7 @@ typedef struct {
     const char *name;
     int width;
     const void *text, *needle;
-    size_t n, m;
+    size_t n, m, stop;
 } search_case;
 
 typedef struct {
@@ -273,7 +274,7 @@ static outcome walk_all(const search_case *s, int real) {
     outcome o = {0, 0, 0};
     hx_cursor c;
     uint64_t p;
-    hx_cursor_fresh(&c);
+    hx_cursor_fresh(&c, s->stop);
     if (s->width == BYTES) {
         uint32_t (*next)(hx_cursor *, const uint8_t *, size_t, const uint8_t *, size_t, uint64_t *) = real ? real_next_in_bytes : hx_next_in_bytes;
         while (next(&c, s->text, s->n, s->needle, s->m, &p) == HX_MATCH) o.hits++, o.sum += p;
@@ -294,7 +295,7 @@ static outcome fill_all(const search_case *s, int real) {
     uint64_t list[LIST];
     size_t count;
     uint32_t end;
-    hx_cursor_fresh(&c);
+    hx_cursor_fresh(&c, s->stop);
     do {
         if (s->width == BYTES) end = (real ? real_fill_in_bytes : hx_fill_in_bytes)(&c, s->text, s->n, s->needle, s->m, list, LIST, &count);
         else end = (real ? real_fill_in_words : hx_fill_in_words)(&c, s->text, s->n, s->needle, s->m, list, LIST, &count);
@@ -351,7 +352,7 @@ static search_case cases[64];
 static size_t case_count;
 
 static void add(const char *name, int width, const void *text, size_t n, const void *needle, size_t m) {
-    search_case s = {name, width, text, needle, n, m};
+    search_case s = {name, width, text, needle, n, m, n};
     cases[case_count++] = s;
 }
 
@@ -469,6 +470,36 @@ static void time_growth(int rounds) {
                 }
                 printf("%s\t%d\t%zu\t%llu\t%.0f\n", cases[i].name, cases[i].width, n, (unsigned long long)o.compares, best);
             }
+    }
+}
+
+// next matches and fills, proved and real, with a stop at half the text beside the whole of it
+static void time_stops(int rounds) {
+    for (size_t i = 0; i < case_count; i++) {
+        search_case s[2] = {cases[i], cases[i]};
+        double best[2][MEMMEM];
+        uint64_t compares[2];
+        s[1].stop = s[1].n / 2;
+        for (int h = 0; h < 2; h++) {
+            compares[h] = run(&s[h], PROVED).compares;
+            for (int k = 0; k < MEMMEM; k++) best[h][k] = 1e300;
+        }
+        for (int r = 0; r < rounds; r++)
+            for (int k = 0; k < MEMMEM; k++)
+                for (int h = 0; h < 2; h++) {
+                    double t = now();
+                    outcome q = run(&s[h], k);
+                    t = now() - t;
+                    if (q.compares != compares[h]) {
+                        fprintf(stderr, "bench: %s: contender %d differs\n", s[h].name, k);
+                        exit(1);
+                    }
+                    if (t < best[h][k]) best[h][k] = t;
+                }
+        printf("%s\t%d\t%.4f", s[0].name, s[0].width, (double)compares[1] / (double)compares[0]);
+        for (int k = 0; k < MEMMEM; k++) printf("\t%.4f", best[1][k] / best[0][k]);
+        printf("\n");
+        fflush(stdout);
     }
 }
 
@@ -630,7 +661,7 @@ static void time_entries(int rounds) {
 
 int main(int argc, char **argv) {
     if (argc != 3) {
-        fprintf(stderr, "usage: bench search|real|growth|unit|real-unit|entries ROUNDS\n");
+        fprintf(stderr, "usage: bench search|real|stops|growth|unit|real-unit|entries ROUNDS\n");
         return 2;
     }
     int rounds = atoi(argv[2]);
@@ -641,6 +672,7 @@ int main(int argc, char **argv) {
     else {
         make_cases(MIB);
         if (!strcmp(argv[1], "search")) time_search(rounds);
+        else if (!strcmp(argv[1], "stops")) time_stops(rounds);
         else time_real(rounds);
     }
     return 0;

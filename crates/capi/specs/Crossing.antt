@@ -1,4 +1,4 @@
--- What crosses to C: a cursor as three numbers, the flags as one, an answer as a status and what is
+-- What crosses to C: a cursor as four numbers, the flags as one, an answer as a status and what is
 -- written through the caller's pointers. A refused call writes nothing.
 use Prim.Native.Nat.{ℕ, _+_}
 use mathlib.Core.Path.{_≡_}
@@ -54,13 +54,13 @@ pub record MaskGiven (a : MaskAnswer) (mask : List ℕ) (flags r : ℕ) (mask' :
 
 -- ---- the search
 
--- a cursor as three numbers: position, compares, and whether it is exhausted
+-- a cursor as four numbers: position, compares, whether it is exhausted, and its stop
 abbrev pub numbersOf : Cursor → List ℕ
-numbersOf c = c .position ∷ c .compares ∷ cond (c .exhausted) 1 0 ∷ []
+numbersOf c = c .position ∷ c .compares ∷ cond (c .exhausted) 1 0 ∷ c .stop ∷ []
 
--- the cursor that three numbers stand for
+-- the cursor that four numbers stand for
 abbrev pub cursorOf : List ℕ → Cursor
-cursorOf ns = cursorAt (getD ns 0 0) (getD ns 1 0) (truth (getD ns 2 0))
+cursorOf ns = cursorAt (getD ns 0 0) (getD ns 1 0) (truth (getD ns 2 0)) (getD ns 3 0)
 
 -- what next match returns: 0 for a match, 256 for absent, which is above every refusal's number,
 -- or that number
@@ -69,7 +69,7 @@ statusOf (found p) = 0
 statusOf absent = 256
 statusOf (refused number) = number
 
--- the three numbers after a call: those of the cursor to go on with, or what stood there where it
+-- the four numbers after a call: those of the cursor to go on with, or what stood there where it
 -- was refused
 abbrev pub cursorAfter : Said → Cursor → List ℕ → List ℕ
 cursorAfter (found p) c ns = numbersOf c
@@ -100,7 +100,7 @@ fillStatus (noMore count) = 256
 fillStatus (stopped number count) = number
 fillStatus (unfilled number) = number
 
--- the three numbers after a fill, and the count: new ones, or what stood there where it was refused
+-- the four numbers after a fill, and the count: new ones, or what stood there where it was refused
 abbrev pub fillCursorAfter : FillSaid → Cursor → List ℕ → List ℕ
 fillCursorAfter (full count) c ns = numbersOf c
 fillCursorAfter (noMore count) c ns = numbersOf c

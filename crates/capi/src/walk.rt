@@ -17,31 +17,33 @@ const ABSENT: u32 = 256;
 
 const FULL: u32 = 257;
 
-// The cursor that three numbers stand for.
-fn cursor_of(numbers: [u64; 3]) -> Cursor
+// The cursor that four numbers stand for.
+fn cursor_of(numbers: [u64; 4]) -> Cursor
     ensures { λ r. ⌜ r ≡ cursorOf numbers ⌝ }
 {
     Cursor {
         position: numbers[0],
         compares: numbers[1],
         exhausted: numbers[2] != 0,
+        stop: numbers[3],
     }
 }
 
-// A cursor as three numbers.
-fn numbers_of(cursor: Cursor) -> [u64; 3]
+// A cursor as four numbers.
+fn numbers_of(cursor: Cursor) -> [u64; 4]
     ensures { λ r. ⌜ r ≡ numbersOf cursor ⌝ }
 {
     [
         cursor.position,
         cursor.compares,
         weighed(cursor.exhausted, 1) as u64,
+        cursor.stop,
     ]
 }
 
 // Hands the answer of next match to the caller: the position first, for speed
 // (docs/PERFORMANCE.md).
-fn give_next(next: Next, cursor: &mut [u64; 3], position: &mut u64) -> u32
+fn give_next(next: Next, cursor: &mut [u64; 4], position: &mut u64) -> u32
     ensures { λ r. ⌜ NextGiven next (now (cursor .entry)) (now (position .entry)) r
         (now (cursor .exit)) (now (position .exit)) ⌝ }
 {
@@ -60,7 +62,7 @@ fn give_next(next: Next, cursor: &mut [u64; 3], position: &mut u64) -> u32
 }
 
 // Hands the answer of a fill to the caller. A number before the first position is a refusal.
-fn give_filled(filled: Filled, cursor: &mut [u64; 3], count: &mut usize) -> u32
+fn give_filled(filled: Filled, cursor: &mut [u64; 4], count: &mut usize) -> u32
     ensures { λ r. ⌜ FilledGiven filled (now (cursor .entry)) (now (count .entry)) r
         (now (cursor .exit)) (now (count .exit)) ⌝ }
 {
@@ -88,16 +90,16 @@ fn give_filled(filled: Filled, cursor: &mut [u64; 3], count: &mut usize) -> u32
 
 // The cursor of a first call: the numbers of `Cursor::fresh`.
 #[no_mangle]
-pub extern "C" fn hx_cursor_fresh(cursor: &mut [u64; 3])
-    ensures { λ _. ⌜ now (cursor .exit) ≡ numbersOf freshCursor ⌝ }
+pub extern "C" fn hx_cursor_fresh(cursor: &mut [u64; 4], stop: u64)
+    ensures { λ _. ⌜ now (cursor .exit) ≡ numbersOf (freshCursor stop) ⌝ }
 {
-    *cursor = [0, 0, 0];
+    *cursor = [0, 0, 0, stop];
 }
 
 // The next match of a needle of bytes.
 #[no_mangle]
 pub extern "C" fn hx_next_in_bytes(
-    cursor: &mut [u64; 3],
+    cursor: &mut [u64; 4],
     text: &[u8],
     needle: &[u8],
     position: &mut u64,
@@ -115,7 +117,7 @@ pub extern "C" fn hx_next_in_bytes(
 // The next match of a needle of words.
 #[no_mangle]
 pub extern "C" fn hx_next_in_words(
-    cursor: &mut [u64; 3],
+    cursor: &mut [u64; 4],
     text: &[u16],
     needle: &[u16],
     position: &mut u64,
@@ -133,7 +135,7 @@ pub extern "C" fn hx_next_in_words(
 // The next matches of a needle of bytes, as many as the list has places for.
 #[no_mangle]
 pub extern "C" fn hx_fill_in_bytes(
-    cursor: &mut [u64; 3],
+    cursor: &mut [u64; 4],
     text: &[u8],
     needle: &[u8],
     positions: &mut [u64],
@@ -152,7 +154,7 @@ pub extern "C" fn hx_fill_in_bytes(
 // The next matches of a needle of words, as many as the list has places for.
 #[no_mangle]
 pub extern "C" fn hx_fill_in_words(
-    cursor: &mut [u64; 3],
+    cursor: &mut [u64; 4],
     text: &[u16],
     needle: &[u16],
     positions: &mut [u64],

@@ -19,7 +19,7 @@ use Rattle.decimal.proofs.Pages.{tail, line-put, part-put}
 use Rattle.search.specs.Positions.{positions}
 use Rattle.search.specs.Walk.{bound}
 use Rattle.search.specs.Cursors.{longestNeedle}
-use Rattle.search.proofs.Lists.{calls-find-all}
+use Rattle.search.proofs.Lists.{calls-find-whole}
 use Rattle.search.proofs.Callers.{position-within, positions-few}
 use Rattle.report.specs.declared.Tally.{Tally}
 use Rattle.report.specs.declared.ReportAnswer.{ReportAnswer}
@@ -40,7 +40,7 @@ module _ (text needle : List ℕ) (small : length text < longestInput) (short : 
 
   pub compares-few : comparesFor text needle < 10000000000
   compares-few =
-      let all = calls-find-all false text needle (suc (length (positions text needle))) (omega arith) short in
+      let all = calls-find-whole false text needle (suc (length (positions text needle))) (omega arith) short in
       omega (arith, all .bounded, bound-few (length text) (length needle) small short)
 
   length-matches : length (matchLines (positions text needle)) ≡ length (positions text needle) * 9

@@ -17,7 +17,7 @@ use Rattle.search.specs.Positions.{positions}
 use Rattle.search.specs.Walk.{walkCount}
 use Rattle.search.specs.Cursors.{freshCursor, longestNeedle, nextMatch}
 use Rattle.search.specs.Calls.{cursorAfter}
-use Rattle.search.proofs.Lists.{calls-find-all}
+use Rattle.search.proofs.Lists.{calls-find-whole}
 use Rattle.search.proofs.Callers.{finds, ends, position-within}
 use Rattle.report.specs.declared.Tally.{Tally}
 use Rattle.report.specs.Report.{longestInput, numberLine, matchLines}
@@ -27,7 +27,7 @@ use Rattle.decimal.proofs.Pages.{line-put}
 
 -- the cursor after k calls
 abbrev pub cursorBy : List ℕ → List ℕ → ℕ → Cursor
-cursorBy text needle k = cursorAfter inBytes text needle k freshCursor
+cursorBy text needle k = cursorAfter inBytes text needle k (freshCursor (length text))
 
 -- the calls so far: k matches, and where no more follow, the one that said absent
 abbrev pub Called : List ℕ → List ℕ → Bool → ℕ → Cursor → Type 0
@@ -110,7 +110,7 @@ module _ (text needle : List ℕ) (small : length text < longestInput) (short : 
       record {
         matches = called .0;
         compares =
-            ap (λ (c : Cursor). c .compares) (called .1) ∙ calls-find-all inBytes text needle (suc (t .matches)) (omega arith) short .counts
+            ap (λ (c : Cursor). c .compares) (called .1) ∙ calls-find-whole inBytes text needle (suc (t .matches)) (omega arith) short .counts
             ∙ ap (λ (k : ℕ). walkCount inBytes text needle (suc k)) (called .0);
         page = has ∙ ap (λ (k : ℕ). matchLines (take k ps) ++ drop (k * 9) before) (called .0) ∙ rw (take-length ps);
       }

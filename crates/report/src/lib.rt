@@ -55,13 +55,13 @@ struct Tally {
 }
 
 impl Tally {
-    // Before the first call.
-    fn begun() -> Tally
-        ensures { λ r. ⌜ r ≡ tallyOf 0 freshCursor true ⌝ }
+    // Before the first call, for a text of n elements.
+    fn begun(n: usize) -> Tally
+        ensures { λ r. ⌜ r ≡ tallyOf 0 (freshCursor n) true ⌝ }
     {
         Tally {
             matches: 0,
-            cursor: Cursor::fresh(),
+            cursor: Cursor::fresh(n as u64),
             more: true,
         }
     }
@@ -145,7 +145,7 @@ fn put_matches(text: &[u8], needle: &[u8], page: &mut [u8]) -> Tally
     ensures { λ r. ⌜ Found (now (text .entry)) (now (needle .entry)) (now (page .entry))
         (now (page .exit)) r ⌝ }
 {
-    let mut tally = Tally::begun();
+    let mut tally = Tally::begun(text.len());
     while tally.more {
         let cursor = tally.cursor;
         let next = cursor.next_in_bytes(text, needle);

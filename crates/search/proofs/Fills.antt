@@ -6,7 +6,7 @@ use mathlib.Core.Path.{_≡_, refl, sym, ap, _∙_}
 use mathlib.Core.Bool.{Bool, true, false, cond}
 use mathlib.Core.List.{List, [], _∷_, _++_, append-nil, append-assoc}
 use lib.Dec.{ltb}
-use lib.ListN.{length, getD, drop, set, length-append, length-drop, length-set}
+use lib.ListN.{length, getD, drop, set, length-append, length-drop, length-set, length-take}
 use lib.Seq.{drop-cons, set-at}
 use native.Mathlib.Omega.{arith}
 use native.Mathlib.Nat.{sub-zero}
@@ -20,10 +20,10 @@ use Rattle.search.specs.declared.Filled.{Filled}
 use Rattle.search.specs.declared.Stepped.{Stepped}
 use Rattle.search.specs.declared.Walked.{Walked}
 use Rattle.search.specs.Walk.{Ended, matchAt, nowhere, walk}
-use Rattle.search.specs.Cursors.{accepted, answered, cursorAt, mostCompares, refusal, nextMatch}
+use Rattle.search.specs.Cursors.{accepted, answered, front, moved, mostCompares, refusal, nextMatch}
 use Rattle.search.specs.Calls.{cursorOf}
 use Rattle.search.specs.Fills.{afterNext, answerOf, emptyList, Fill, fill, FillAnswered, fillFrom, fillOf, written}
-use Rattle.search.specs.Moves.{Led, Walks, ended, endOf, filledBy, moved, total}
+use Rattle.search.specs.Moves.{Led, Walks, ended, endOf, filledBy, total}
 use Rattle.search.proofs.Walks.{WalkOk, walk-ok}
 use Rattle.search.proofs.Lists.{next-refused}
 use Rattle.search.proofs.Refusals.{accepted-is, compares-alone}
@@ -42,6 +42,7 @@ pub record Going (words : Bool) (text needle list : List ℕ) (c from at : Curso
   pub list-is : list' ≡ written found list
   pub rest : inFront found (fillFrom (nextMatch words text needle) (length list - k) from) ≡ fillFrom (nextMatch words text needle) (length list) c
   pub accepted : refusal (length text) (length needle) from ≡ 0
+  pub cut : from .stop ≡ length text
   pub near : at .position ≤ length text + 1
   pub same : total words text needle at ≡ total words text needle from
   pub one : length list ≡ 1 → from ≡ c
@@ -74,15 +75,16 @@ module _ (words : Bool) (text needle list : List ℕ) (c : Cursor) where
       }
 
   -- it begins
-  pub going-start : refusal (length text) (length needle) c ≡ 0 → 0 < length list → Going words text needle list c c c 0 list
-  going-start a h = record {
+  pub going-start : refusal (length text) (length needle) c ≡ 0 → c .stop ≡ length text → 0 < length list → Going words text needle list c c c 0 list
+  going-start a cut h = record {
     found = [];
     size = refl;
     below = h;
     list-is = refl;
     rest = rw (sub-zero (length list));
     accepted = a;
-    near = accepted-is (length text) (length needle) c a .position;
+    cut = cut;
+    near = omega (arith, accepted-is (length text) (length needle) c a .position);
     same = refl;
     one = λ _. refl;
   }
@@ -111,6 +113,7 @@ module _ {words : Bool} {text needle list : List ℕ} {c from at : Cursor} {k : 
     list-is = g .list-is;
     rest = g .rest;
     accepted = g .accepted;
+    cut = g .cut;
     near = omega (arith, led .near);
     same = turn-on words text needle from at r led (g .same) t;
     one = g .one;
@@ -124,7 +127,7 @@ module _ {words : Bool} {text needle list : List ℕ} {c from at : Cursor} {k : 
   pub going-past : length text < at .position + length needle → (last : Next) → last ≡ ended from (nowhere (at .compares))
       → Walks next c list (record { count = k; last = last }) list'
   going-past past last e =
-      let is = ap (ended from) (sym (total-past words text needle at past) ∙ g .same) ∙ next-ended words text needle from (g .accepted) in
+      let is = ap (ended from) (sym (total-past words text needle at past) ∙ g .same) ∙ next-ended words text needle from (g .accepted) (g .cut) in
       let rest = rw (places, ← is) at (g .rest) in
       rw e (ends words text needle list c (g .found) k list' (ended from (nowhere (at .compares))) (g .size) (g .list-is) rest (λ h. is ∙ ap next (g .one h)))
 
@@ -137,7 +140,7 @@ module _ {words : Bool} {text needle list : List ℕ} {c from at : Cursor} {k : 
     d = moved from (p + 1) (r .cursor .compares) false
 
     match-is : Match p d ≡ next from
-    match-is = turn-found words text needle from at r led (g .same) t ∙ next-ended words text needle from (g .accepted)
+    match-is = turn-found words text needle from at r led (g .same) t ∙ next-ended words text needle from (g .accepted) (g .cut)
 
     match-rest : inFront (g .found ++ p ∷ []) (fillFrom next (length list - (k + 1)) d) ≡ fillFrom next (length list) c
     match-rest = rw append-assoc (rw (places, ← match-is) at (g .rest))
@@ -169,7 +172,8 @@ module _ {words : Bool} {text needle list : List ℕ} {c from at : Cursor} {k : 
         list-is = match-list;
         rest = more-rest;
         accepted = z;
-        near = accepted-is (length text) (length needle) a z .position;
+        cut = ap (λ (x : Cursor). x .stop) is ∙ g .cut;
+        near = omega (arith, accepted-is (length text) (length needle) a z .position, ap (λ (x : Cursor). x .stop) is ∙ g .cut);
         same = refl;
         one = λ h. absurd (omega arith);
       }
@@ -234,12 +238,12 @@ module _ (words : Bool) (text needle : List ℕ) where
   Says23 true (Refused number d) = number ≡ 23
   Says23 false (Refused number d) = Unit {0}
 
-  ended-23 : (b : Bool) (c : Cursor) → refusal (length text) (length needle) c ≡ 0 → (e : Ended) → WalkOk words text needle (c .position) e → Says23 b (accepted c e)
+  ended-23 : (b : Bool) (c : Cursor) → refusal (length text) (length needle) c ≡ 0 → (e : Ended) → WalkOk words (front text c) needle (c .position) e → Says23 b (accepted c e)
   ended-23 b c z (nowhere k) ok = tt
   ended-23 b c z (matchAt q k) ok = λ number e h.
       let known = accepted-is (length text) (length needle) c z in
-      let d = cursorAt (q + 1) (c .compares + k) false in
-      let alone = compares-alone (length text) (length needle) d (known .text) (known .needle) refl (omega (arith, ok .0)) in
+      let d = moved c (q + 1) (c .compares + k) false in
+      let alone = compares-alone (length text) (length needle) d (known .text) (known .needle) refl (known .stop) (omega (arith, ok .0, length-take (c .stop) text)) in
       chosen (ltb mostCompares (d .compares)) number (sym alone ∙ e) h
     where
       chosen : (t : Bool) (number : ℕ) → cond t 23 0 ≡ number → 0 < number → number ≡ 23
@@ -250,8 +254,8 @@ module _ (words : Bool) (text needle : List ℕ) where
   unfolding nextMatch
   says-23 b c only = by-number b only (refusal (length text) (length needle) c) refl
     where
-      by-number : (t : Bool) → (t ≡ true → Only23 c) → (r : ℕ) → refusal (length text) (length needle) c ≡ r → Says23 t (answered r c (walk words text needle))
-      by-number t o zero z = ended-23 t c z (walk words text needle (c .position)) (walk-ok words text needle (c .position))
+      by-number : (t : Bool) → (t ≡ true → Only23 c) → (r : ℕ) → refusal (length text) (length needle) c ≡ r → Says23 t (answered r c (walk words (front text c) needle))
+      by-number t o zero z = ended-23 t c z (walk words (front text c) needle (c .position)) (walk-ok words (front text c) needle (c .position))
       by-number true o (suc r) z = o refl (suc r) z (omega arith)
       by-number false o (suc r) z = tt
 

@@ -7,6 +7,7 @@ use mathlib.Core.Path.{_≡_, refl, sym, ap, _∙_}
 use mathlib.Core.Bool.{Bool}
 use mathlib.Core.List.{List, [], _∷_, _++_, map}
 use lib.ListN.{length, take, replicate}
+use lib.Seq.{take-length}
 use native.Mathlib.Omega.{arith}
 use native.Mathlib.Nat.{suc-add, zero-add}
 use native.Mathlib.Numerals.{one-add}
@@ -15,10 +16,10 @@ use Rattle.search.specs.declared.Next.{Next}
 use Rattle.search.specs.declared.Next.the-variants.{Match, Absent, Refused}
 use Rattle.search.specs.Positions.{positions}
 use Rattle.search.specs.Walk.{Ended, matchAt, nowhere, walk}
-use Rattle.search.specs.Cursors.{freshCursor, refusal, accepted, answered, nextMatch}
+use Rattle.search.specs.Cursors.{freshCursor, front, refusal, accepted, answered, nextMatch}
 use Rattle.search.specs.Calls.{Said, found, absent, refused, said, cursorOf, saidBy, cursorAfter}
 use Rattle.search.specs.Fills.{afterNext, emptyList, fill, fillFrom}
-use Rattle.search.specs.Mixed.{Call, aNext, aFill, asked, askedBy, foundIn, givenBy, cursorBy, MixedAsNext, MixedFinds}
+use Rattle.search.specs.Mixed.{Call, aNext, aFill, asked, askedBy, foundIn, givenBy, cursorBy, MixedAsNext, MixedFinds, MixedFindWhole}
 use Rattle.search.proofs.Refusals.{accepted-is, exhausted-refused}
 use Rattle.search.proofs.Lists.{calls-find-all, next-refused}
 
@@ -57,8 +58,8 @@ module _ (words : Bool) (text needle : List ℕ) where
           let after = cursorOf (accepted c (nowhere k)) in
           record { number = 21; refuses = next-refused words text needle after 21 (sym (exhausted-refused (length text) (length needle) after (known .text) (known .needle) refl)) (omega arith) }
 
-      by-number : (r : ℕ) → refusal (length text) (length needle) c ≡ r → Leaves (answered r c (walk words text needle))
-      by-number zero z = by-end z (walk words text needle (c .position))
+      by-number : (r : ℕ) → refusal (length text) (length needle) c ≡ r → Leaves (answered r c (walk words (front text c) needle))
+      by-number zero z = by-end z (walk words (front text c) needle (c .position))
       by-number (suc r) z = record { number = suc r; refuses = next-refused words text needle c (suc r) z (omega arith) }
 
   -- ---- a fill, and n next matches after it
@@ -142,11 +143,14 @@ none-found zero = refl
 none-found (suc k) = none-found k
 
 pub mixed-finds : MixedFinds
-mixed-finds words text needle calls small short =
+mixed-finds words text needle stop calls small short reach =
     let k = askedBy calls in
-    let all = calls-find-all words text needle k small short in
-    let same = mixed-as-next words text needle calls freshCursor in record {
-      gives = same .gives ∙ ap foundIn (all .says) ∙ found-first k (positions text needle) (absent ∷ replicate k (refused 21)) (none-found k);
+    let all = calls-find-all words text needle stop k small short reach in
+    let same = mixed-as-next words text needle calls (freshCursor stop) in record {
+      gives = same .gives ∙ ap foundIn (all .says) ∙ found-first k (positions (take stop text) needle) (absent ∷ replicate k (refused 21)) (none-found k);
       counts = ap (λ (c : Cursor). c .compares) (same .leaves) ∙ all .counts;
       bounded = all .bounded;
     }
+
+pub mixed-find-whole : MixedFindWhole
+mixed-find-whole words text needle calls small short = rw take-length at (mixed-finds words text needle (length text) calls small short (omega arith))

@@ -20,7 +20,8 @@ use Rattle.scan.specs.Scan.{indexIn, scanOf}
 use Rattle.scan.proofs.Scans.{scan-index, scan-none, scan-passed}
 use Rattle.search.specs.declared.Cursor.{Cursor}
 use Rattle.search.specs.declared.Stepped.{Stepped}
-use Rattle.search.specs.Moves.{Led, Ready, Room, laterAt, manyCompares, moved, rested, steppedBy, total}
+use Rattle.search.specs.Cursors.{moved}
+use Rattle.search.specs.Moves.{Led, Ready, Room, laterAt, manyCompares, rested, steppedBy, total}
 use Rattle.search.specs.Walk.{ordered, firstIndex, Ended, matchAt, nowhere, plus, walk}
 use Rattle.search.proofs.Pieces.{count-some, part-of}
 use Rattle.search.proofs.Steps.{first-called, first-most, step-fits, step-index, step-none}

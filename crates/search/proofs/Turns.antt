@@ -6,6 +6,7 @@ use mathlib.Core.Bool.{Bool, true, false, cond}
 use mathlib.Core.List.{List}
 use lib.Dec.{eqb}
 use lib.ListN.{length, take, drop, length-take, length-drop}
+use lib.Seq.{take-length}
 use lib.IntN.{pos}
 use native.Mathlib.Omega.{arith}
 use native.Mathlib.Nat.{add-zero}
@@ -17,7 +18,7 @@ use Rattle.blocks.specs.Blocks.{longestText, operandOf}
 use Rattle.search.specs.declared.Cursor.{Cursor}
 use Rattle.search.specs.declared.Stepped.{Stepped}
 use Rattle.search.specs.Walk.{Later, noneDiffers, oneDiffers, more, ordered, here, onward, afterLater, step, Ended, matchAt, nowhere, plus, walk}
-use Rattle.search.specs.Cursors.{longestNeedle, mostCompares, refusal, accepted, nextMatch}
+use Rattle.search.specs.Cursors.{longestNeedle, mostCompares, refusal, accepted, front, nextMatch}
 use Rattle.search.specs.Moves.{Led, Ready, ended, from, laterAt, manyCompares, rested, steppedBy, total}
 use Rattle.search.proofs.Pieces.{later-end, more-none}
 use Rattle.search.proofs.Steps.{first-called, first-most, first-within, step-empty, step-fits, step-index, step-none, step-past}
@@ -101,9 +102,11 @@ module _ (words : Bool) (text needle : List ℕ) (c : Cursor) where
   total-past h =
       ap (plus (c .compares)) (walk-past words text needle (c .position) (step-past words text needle (c .position) h)) ∙ ap nowhere (add-zero (c .compares))
 
-  -- an accepted call answers how its walk ends
-  pub next-ended : refusal (length text) (length needle) c ≡ 0 → ended c (total words text needle c) ≡ nextMatch words text needle c
-  next-ended z = sym (next-accepted words text needle c z ∙ accepted-ended (walk words text needle (c .position)))
+  -- an accepted call over a text that is cut at the stop answers how its walk ends
+  pub next-ended : refusal (length text) (length needle) c ≡ 0 → c .stop ≡ length text → ended c (total words text needle c) ≡ nextMatch words text needle c
+  next-ended z cut =
+      let all : front text c ≡ text = rw (cut, take-length text) in
+      sym (next-accepted words text needle c z ∙ ap (λ (l : List ℕ). accepted c (walk words l needle (c .position))) all ∙ accepted-ended (walk words text needle (c .position)))
     where
       accepted-ended : (e : Ended) → accepted c e ≡ ended c (plus (c .compares) e)
       accepted-ended (matchAt p k) = refl

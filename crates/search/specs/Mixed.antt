@@ -76,17 +76,25 @@ MixedAsNext =
 
 -- ---- from the fresh cursor on
 
--- the first so many of all positions, at the walk's count, within the bound
-pub record FindsFirst (words : Bool) (text needle : List ℕ) (calls : List Call) : Type 0 where
-  pub gives : allGiven words text needle calls freshCursor
-      ≡ take (askedBy calls) (positions text needle)
-  pub counts : cursorAfterAll words text needle calls freshCursor .compares
-      ≡ walkCount words text needle (askedBy calls)
-  pub bounded : walkCount words text needle (askedBy calls)
-      ≤ bound words (length text) (length needle)
+-- the first so many of all positions in a part of the text, of `stop` elements, at the walk's
+-- count, within the bound
+pub record FindsFirst (words : Bool) (text needle : List ℕ) (stop : ℕ) (calls : List Call)
+    (part : List ℕ) : Type 0 where
+  pub gives : allGiven words text needle calls (freshCursor stop)
+      ≡ take (askedBy calls) (positions part needle)
+  pub counts : cursorAfterAll words text needle calls (freshCursor stop) .compares
+      ≡ walkCount words part needle (askedBy calls)
+  pub bounded : walkCount words part needle (askedBy calls) ≤ bound words stop (length needle)
 
 -- Demand 3 for fills, proved as `mixed-finds` in proofs/Mixtures.antt.
 abbrev pub MixedFinds : Type 0
 MixedFinds =
+    (words : Bool) (text needle : List ℕ) (stop : ℕ) (calls : List Call) → length text ≤ longestText
+    → length needle ≤ longestNeedle → stop ≤ length text
+    → FindsFirst words text needle stop calls (take stop text)
+
+-- The stop at the text's end, proved as `mixed-find-whole` in proofs/Mixtures.antt.
+abbrev pub MixedFindWhole : Type 0
+MixedFindWhole =
     (words : Bool) (text needle : List ℕ) (calls : List Call) → length text ≤ longestText
-    → length needle ≤ longestNeedle → FindsFirst words text needle calls
+    → length needle ≤ longestNeedle → FindsFirst words text needle (length text) calls text

@@ -16,7 +16,7 @@ use Rattle.search.specs.declared.End.the-variants.{Full, Absent as EndAb
 use Rattle.search.specs.declared.Filled.{Filled}
 use Rattle.search.specs.declared.Stepped.{Stepped}
 use Rattle.search.specs.declared.Walked.{Walked}
-use Rattle.search.specs.Cursors.{cursorAt, longestNeedle, refusal}
+use Rattle.search.specs.Cursors.{longestNeedle, moved, refusal}
 use Rattle.search.specs.Calls.{cursorOf}
 use Rattle.search.specs.Fills.{answerOf, fillFrom, written}
 use Rattle.search.specs.Walk.{Later, noneDiffers, oneDiffers, later, Ended, matchAt, nowhere, plus, walk}
@@ -48,18 +48,16 @@ pub record Ready (words : Bool) (text needle first : List ℕ) (l : ℕ) (c : Cu
   pub size : l ≡ min (count words) (length needle)
   pub operand : first ≡ operandOf words (take l needle)
 
--- no refusal, the size of the needle's first piece, and a list with a place or more, for a walk
+-- No refusal, a text that is cut at the stop, the size of the needle's first piece, and a list with
+-- a place or more, for a walk.
 pub record Walkable (words : Bool) (text needle : List ℕ) (l : ℕ) (c : Cursor) (list : List ℕ)
     : Type 0 where
   pub accepted : refusal (length text) (length needle) c ≡ 0
+  pub cut : c .stop ≡ length text
   pub size : l ≡ min (count words) (length needle)
   pub places : 0 < length list
 
 -- ---- how a cursor moves
-
--- The one way to a changed cursor. What else the cursor c holds is kept.
-abbrev pub moved : Cursor → ℕ → ℕ → Bool → Cursor
-moved c position compares exhausted = cursorAt position compares exhausted
 
 -- the cursor c on by some elements, with these compares behind it
 abbrev pub steppedBy : Cursor → Bool → ℕ → ℕ → Stepped

@@ -60,7 +60,8 @@ impl Cursor {
 
     // The walk from the cursor's position, on past each match until the list is full or a number
     // stops it. `from` is the cursor of the match that is looked for, `at` how far its walk has
-    // got. The needle's first piece has l bytes; its operand is made once.
+    // got. The text is cut at the stop. The needle's first piece has l bytes; its operand is made
+    // once.
     fn walk_in_bytes(self, text: &[u8], needle: &[u8], l: usize, positions: &mut [u64]) -> Walked
         requires { ⌜ Walkable inBytes (now text) (now needle) l self (now positions) ⌝ }
         ensures { λ r. ⌜ Walks (nextMatch inBytes (now (text .entry)) (now (needle .entry))) self
@@ -70,8 +71,8 @@ impl Cursor {
         let m = needle.len();
         let mut first = [0u8; 16];
         blocks::fill_bytes(&mut first, &needle[..l]);
-        let mut from = self;
-        let mut at = self;
+        let mut from = self.anew(n);
+        let mut at = from;
         let mut k = 0;
         while (at.position as usize) + m <= n {
             let s = at.step_in_bytes(text, needle, &first, l);
@@ -102,7 +103,8 @@ impl Cursor {
         }
     }
 
-    // The next match of a needle of bytes (document 01: next hit): a walk with a list of one.
+    // The next match of a needle of bytes (document 01: next hit): a walk with a list of one,
+    // over the text cut at the stop.
     pub fn next_in_bytes(self, text: &[u8], needle: &[u8]) -> Next
         ensures { λ r. ⌜ r ≡ nextMatch inBytes (now (text .entry)) (now (needle .entry)) self ⌝ }
     {
@@ -110,13 +112,14 @@ impl Cursor {
         if number > 0 {
             return Next::Refused(number, self);
         }
-        let mut position = [0u64; 1];
         let l = bits::min(needle.len(), 16);
-        let w = self.walk_in_bytes(text, needle, l, &mut position);
+        let mut position = [0u64; 1];
+        let w = self.walk_in_bytes(&text[..self.stop as usize], needle, l, &mut position);
         w.last
     }
 
-    // The next matches of a needle of bytes, as many as the list has places for (document 02 [1]).
+    // The next matches of a needle of bytes, as many as the list has places for (document 02 [1]),
+    // by a walk over the text cut at the stop.
     pub fn fill_in_bytes(self, text: &[u8], needle: &[u8], positions: &mut [u64]) -> Filled
         ensures { λ r. ⌜ FillAnswered
             (fill inBytes (now (text .entry)) (now (needle .entry))
@@ -136,7 +139,7 @@ impl Cursor {
             };
         }
         let l = bits::min(needle.len(), 16);
-        let w = self.walk_in_bytes(text, needle, l, positions);
+        let w = self.walk_in_bytes(&text[..self.stop as usize], needle, l, positions);
         let last = w.last;
         last.filled(w.count)
     }

@@ -1,4 +1,4 @@
--- What is handed on is the answer of the fill from the cursor that the three numbers stand for.
+-- What is handed on is the answer of the fill from the cursor that the four numbers stand for.
 -- Assumes nothing.
 use mathlib.Core.Path.{subst}
 use lib.ListN.{length}

@@ -1,4 +1,4 @@
--- What is handed on is the answer of the search from the cursor that the three numbers stand for.
+-- What is handed on is the answer of the search from the cursor that the four numbers stand for.
 -- Assumes nothing.
 use borrow.Author.Needs.{needs}
 use mathlib.Core.Path.{ap, subst, _∙_}

@@ -1,12 +1,16 @@
 -- `search::Cursor::walk_in_bytes` meets its contract. The invariant: the positions found so far,
 -- then the fill of the places left, make up the whole fill (Fills.antt). Assumes nothing.
-use Prim.Native.Nat.{_+_, _-_}
-use mathlib.Core.Path.{sym, ap, _∙_}
+use Prim.Native.Nat.{ℕ, _+_, _-_}
+use mathlib.Core.Path.{sym, ap, subst, _∙_}
+use mathlib.Core.List.{List}
 use lib.ListN.{length, length-take}
 use native.Mathlib.Omega.{arith}
 use borrow.Author.Needs.{needs}
 use Rattle.unit.specs.Operand.{inBytes}
 use Rattle.search.specs.declared.Cursor.{Cursor}
+use Rattle.search.specs.declared.Walked.{Walked}
+use Rattle.search.specs.Cursors.{nextMatch}
+use Rattle.search.specs.Moves.{Walks}
 use Rattle.blocks.proofs.Operands.{filled-zeros}
 use Rattle.search.proofs.Refusals.{Accepted, accepted-is}
 use Rattle.search.proofs.Turns.{total-few}
@@ -22,8 +26,11 @@ abbrev μ-loop : tie.MeasureT-loop
 
 -- The places: what the function was handed, the loop's head, a step, the needle found by it, and
 -- the test of the cursor after that match.
+abbrev at-start : tie.After-fill-bytes Inv-loop μ-loop → tie.Start Inv-loop μ-loop
+at-start c = c .before .before .before .before .before .before
+
 abbrev at-entry : tie.At-loop Inv-loop μ-loop → tie.Start Inv-loop μ-loop
-at-entry c = c .before .before .before .before .before .before .before
+at-entry c = at-start (c .before .before)
 
 abbrev at-loop : tie.After-step-in-bytes Inv-loop μ-loop → tie.At-loop Inv-loop μ-loop
 at-loop c = c .before .before .before
@@ -38,11 +45,27 @@ at-found c = c .before .before .before .before
 limits : (c : tie.At-loop Inv-loop μ-loop) → Accepted (length (at-entry c .args .text .now)) (length (at-entry c .args .needle .now)) (c .loop .from)
 limits c = accepted-is (length (at-entry c .args .text .now)) (length (at-entry c .args .needle .now)) (c .loop .from) (c .loop .inv .accepted)
 
+anew-requires : tie.Need-anew-requires Inv-loop μ-loop
+anew-requires c κs =
+    let s = at-start c in
+    let a = s .args in
+    (accepted-is (length (a .text .now)) (length (a .needle .now)) (a .self) (s .pre .accepted) .more, s .pre .cut)
+
 loop-holds : tie.Need-loop-holds Inv-loop μ-loop
 loop-holds c =
-    let s = c .before .before .before .before .before .before in
+    let s = at-start (c .before) in
     let a = s .args in
-    going-start inBytes (a .text .now) (a .needle .now) (a .positions .now) (a .self) (s .pre .accepted) (s .pre .places)
+    let same = c .anew .ensures in
+    going-start inBytes (a .text .now) (a .needle .now) (a .positions .now) (c .anew .result) (rw same (s .pre .accepted)) (rw same (s .pre .cut)) (s .pre .places)
+
+-- the walk from that cursor is the walk from the one that came in
+same-walk : (c : tie.At-loop Inv-loop μ-loop) (w : Walked) (list' : List ℕ)
+    → let a = at-entry c .args in
+    let next = nextMatch inBytes (a .text .now) (a .needle .now) in
+    Walks next (c .before .anew .result) (a .positions .now) w list' → Walks next (a .self) (a .positions .now) w list'
+same-walk c w list' k =
+    let a = at-entry c .args in
+    subst (λ (x : Cursor). Walks (nextMatch inBytes (a .text .now) (a .needle .now)) x (a .positions .now) w list') (c .before .anew .ensures) k
 
 step-in-bytes-requires : tie.Need-step-in-bytes-requires Inv-loop μ-loop
 step-in-bytes-requires c κs =
@@ -54,7 +77,7 @@ step-in-bytes-requires c κs =
       room = omega arith;
       few = total-few inBytes (a .text .now) (a .needle .now) (o .loop .from) (o .loop .at) (o .loop .inv .same) (k .text) (k .needle) (k .compares);
       size = s .pre .size;
-      operand = filled-zeros _ _ (o .before .fill-bytes .ensures);
+      operand = filled-zeros _ _ (o .before .before .fill-bytes .ensures);
     }
 
 -- a match
@@ -76,9 +99,10 @@ returns c =
     let f = c .before .before in
     let t = at-step f in
     let g = at-loop t .loop .inv in
-    match-full g (t .step-in-bytes .result) (t .step-in-bytes .ensures) (f .if1 .taken)
+    same-walk (at-loop t) _ _
+    (match-full g (t .step-in-bytes .result) (t .step-in-bytes .ensures) (f .if1 .taken)
     (omega (arith, put-length g (t .step-in-bytes .result .cursor .position)))
-    (c .matched .result) (c .matched .ensures)
+    (c .matched .result) (c .matched .ensures))
 
 add-moved : tie.Need-add-moved Inv-loop μ-loop
 add-moved c =
@@ -94,9 +118,10 @@ returns-2 c =
     let f = at-found o in
     let t = at-step f in
     let g = at-loop t .loop .inv in
-    match-stopped g (t .step-in-bytes .result) (t .step-in-bytes .ensures) (f .if1 .taken)
+    same-walk (at-loop t) _ _
+    (match-stopped g (t .step-in-bytes .result) (t .step-in-bytes .ensures) (f .if1 .taken)
     (omega (arith, put-length g (t .step-in-bytes .result .cursor .position), g .below))
-    (o .before .moved .result) (o .before .moved .ensures) (o .refusal .result) (sym (o .refusal .ensures)) (omega arith)
+    (o .before .moved .result) (o .before .moved .ensures) (o .refusal .result) (sym (o .refusal .ensures)) (omega arith))
 
 loop-less : tie.Need-loop-less Inv-loop μ-loop
 loop-less c =
@@ -132,7 +157,7 @@ same-length-3 c = going-length (c .before .before .loop .inv)
 returns-3 : tie.Need-returns-3 Inv-loop μ-loop
 returns-3 c =
     let o = c .before .before in
-    going-past (o .loop .inv) (omega arith) (c .absent .result) (c .absent .ensures)
+    same-walk o _ _ (going-past (o .loop .inv) (omega arith) (c .absent .result) (c .absent .ensures))
 
 pub walk-in-bytes-spec : {M : Type 1} → statement M
 walk-in-bytes-spec =
@@ -142,6 +167,7 @@ walk-in-bytes-spec =
     μ-loop
     (λ c. rw length-take (omega arith))
     (λ c κs. search needs)
+    anew-requires
     loop-holds
     (λ c. search needs)
     step-in-bytes-requires
