@@ -23,8 +23,9 @@ Inv-loop text needle l positions₀ n m first from₀ at₀ k₀ positions from 
 abbrev μ-loop : tie.MeasureT-loop
 μ-loop text needle l positions₀ n m first from₀ at₀ k₀ positions from at k = length text + 2 - at .position
 
--- The places: what the function was handed, the loop's head, a step, the needle found by it, and
--- the test of the cursor after that match.
+-- The places: what the function was handed, seen from the operand's making and from the loop's
+-- head; the loop's head, a step, the needle found by it, and the test of the cursor after that
+-- match.
 abbrev at-start : tie.After-padded-words Inv-loop μ-loop → tie.Start Inv-loop μ-loop
 at-start c = c .before .before .before .before .before
 
