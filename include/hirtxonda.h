@@ -13,7 +13,7 @@
  * - A refused call returns the number of the refusal, one of HX_.._REFUSED below
  *   (docs/REFUSALS.md). It writes nothing: what stood behind each pointer still stands there.
  *   Where several numbers apply, it returns the lowest; only hx_report tests 7, 6, 3, and the
- *   searches test 31 before 22.
+ *   searches test 31 before 22 and 23.
  * - A fill alone may return one of them and yet have written: HX_COMPARES_REFUSED, 23, can stop it
  *   after some matches. It is not refused then; by *count a caller sees which it was.
  * - Six functions refuse nothing and return no such number: hx_pcmpestri_0c and its three siblings

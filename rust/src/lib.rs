@@ -11,16 +11,17 @@
 //!
 //! # Example
 //!
-//! Where does `AB` stand in `ABZAB`? Where does `ABC` stand in one block of sixteen bytes? Where do
-//! the letters of a line end?
+//! Where does `AB` stand in `ABZAB`, and where in its first four bytes? Where does `ABC` stand in
+//! one block of sixteen bytes? Where do the letters of a line end?
 //!
 //! ```
-//! use hirtxonda::{matches, pcmpestri, range_span, Refusal, Signedness};
+//! use hirtxonda::{matches, matches_until, pcmpestri, range_span, Refusal, Signedness};
 //!
 //! # fn main() -> Result<(), Refusal> {
 //! let mut found = matches(b"ABZAB", b"AB")?;
 //! assert_eq!(found.by_ref().collect::<Vec<_>>(), [0, 3]);
 //! assert_eq!(found.compares(), 3);
+//! assert_eq!(matches_until(b"ABZAB", b"AB", 4)?.collect::<Vec<_>>(), [0]);
 //!
 //! // 0Ch: unsigned bytes, equal ordered, positive, least index.
 //! let answer = pcmpestri(b"ABC\0\0\0\0\0\0\0\0\0\0\0\0\0", 3, b"ZZABZABCZZZZZZAB", 16, 0x0c)?;
@@ -45,7 +46,7 @@ pub mod silicon;
 
 pub use refusal::Refusal;
 pub use report::{refusal_line, report, report_into, right_justified, LONGEST_INPUT, LONGEST_REPORT, WIDEST_COLUMN};
-pub use search::{matches, Cursor, End, Filled, Matches, Next, LONGEST_NEEDLE, MOST_COMPARES};
+pub use search::{matches, matches_until, Cursor, End, Filled, Matches, Next, LONGEST_NEEDLE, MOST_COMPARES};
 pub use text::{compare, lesser, range_span, span, Element, Signedness, LONGEST_TEXT};
 pub use unit::{
     pcmpestri, pcmpestri_0c, pcmpestri_0d, pcmpestri_18, pcmpestri_19, pcmpestrm, pcmpistri, pcmpistrm, Flags,

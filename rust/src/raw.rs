@@ -7,6 +7,7 @@ pub struct Cursor {
     pub position: u64,
     pub compares: u64,
     pub exhausted: u64,
+    pub stop: u64,
 }
 
 /// What an accepted search returns where there is no more match.
@@ -90,7 +91,7 @@ extern "C" {
     pub fn hx_pcmpestri_18(operand1: Block, length1: usize, operand2: Block, length2: usize) -> u32;
     pub fn hx_pcmpestri_19(operand1: Block, length1: usize, operand2: Block, length2: usize) -> u32;
     #[allow(dead_code)] // a fresh cursor needs no call
-    pub fn hx_cursor_fresh(cursor: *mut Cursor);
+    pub fn hx_cursor_fresh(cursor: *mut Cursor, stop: u64);
     pub fn hx_right_justified(number: u64, width: usize, buffer: *mut u8, buffer_length: usize) -> u32;
     pub fn hx_report(input: *const u8, input_length: usize, page: *mut u8, written: *mut usize) -> u32;
     pub fn hx_refusal_line(number: u32, line: *mut u8);

@@ -4,7 +4,8 @@ use std::fmt;
 macro_rules! refusals {
     ($($name:ident = $number:literal, $condition:literal;)*) => {
         /// Why a call was refused, or a fill stopped ([`End`](crate::End)). Where several
-        /// conditions hold, the lowest number is given; a report alone tests 7, 6, 3.
+        /// conditions hold, the lowest number is given; only a report tests 7, 6, 3, and a search
+        /// tests 31 before 22 and 23.
         ///
         /// ```
         /// use hirtxonda::{pcmpistri, Refusal};
@@ -55,9 +56,10 @@ refusals! {
     Input = 7, "the report's input has more than 65,536 bytes";
     Width = 8, "the column's width is 0 or above 20, or the number has more digits than the width";
     Exhausted = 21, "the cursor is exhausted";
-    Position = 22, "the cursor's position is above the text's length + 1";
+    Position = 22, "the cursor's position is above its stop + 1";
     Compares = 23, "the cursor has more than 1,099,511,627,776 compares";
     Buffer = 24, "the buffer is shorter than the column's width";
+    Stop = 31, "the stop is above the text's length";
 }
 
 impl Refusal {

@@ -22,21 +22,25 @@ pub const LONGEST_NEEDLE: usize = 1024;
 /// ```
 /// use hirtxonda::{Cursor, Refusal, MOST_COMPARES};
 ///
-/// let cursor = Cursor { compares: MOST_COMPARES + 1, ..Cursor::fresh() };
+/// let cursor = Cursor { compares: MOST_COMPARES + 1, ..Cursor::fresh(2) };
 /// assert_eq!(cursor.next(b"AB", b"B"), Err(Refusal::Compares));
 /// ```
 pub const MOST_COMPARES: u64 = 1_099_511_627_776;
 
-/// Where a list of calls has got to. Any numbers may stand here; each cursor is answered or
-/// refused.
+/// Where a list of calls has got to, and where the search ends. Any numbers may stand here; each
+/// cursor is answered or refused.
 ///
 /// ```
 /// use hirtxonda::{Cursor, Next};
 ///
-/// let cursor = Cursor { position: 1, ..Cursor::fresh() };
+/// let cursor = Cursor { position: 1, ..Cursor::fresh(5) };
 /// assert!(matches!(cursor.next(b"ABZAB", b"AB"), Ok(Next::Match { position: 3, .. })));
+///
+/// // In the first four elements there is no more match.
+/// let cursor = Cursor { stop: 4, ..cursor };
+/// assert!(matches!(cursor.next(b"ABZAB", b"AB"), Ok(Next::Absent { .. })));
 /// ```
-#[derive(Clone, Copy, Debug, Default, PartialEq, Eq, Hash)]
+#[derive(Clone, Copy, Debug, PartialEq, Eq, Hash)]
 pub struct Cursor {
     /// Where the next call begins.
     pub position: u64,
@@ -44,6 +48,10 @@ pub struct Cursor {
     pub compares: u64,
     /// Whether a call has found no more match.
     pub exhausted: bool,
+    /// Where the search ends: it is that of the text's first `stop` elements, and a text that has
+    /// fewer is refused. No match ends past the stop, and what stands past it is not read. No call
+    /// changes it.
+    pub stop: u64,
 }
 
 /// The answer of [`Cursor::next`], with the cursor to go on with.
@@ -51,8 +59,8 @@ pub struct Cursor {
 /// ```
 /// use hirtxonda::{Cursor, Next};
 ///
-/// let cursor = Cursor { position: 0, compares: 1, exhausted: true };
-/// assert_eq!(Cursor::fresh().next(b"ABZAB", b"ABC"), Ok(Next::Absent { cursor }));
+/// let cursor = Cursor { position: 0, compares: 1, exhausted: true, stop: 5 };
+/// assert_eq!(Cursor::fresh(5).next(b"ABZAB", b"ABC"), Ok(Next::Absent { cursor }));
 /// ```
 #[derive(Clone, Copy, Debug, PartialEq, Eq, Hash)]
 pub enum Next {
@@ -63,7 +71,7 @@ pub enum Next {
         /// The cursor to go on with.
         cursor: Cursor,
     },
-    /// There is no more match; the cursor is exhausted.
+    /// There is no more match up to the cursor's stop; the cursor is exhausted.
     Absent {
         /// The exhausted cursor.
         cursor: Cursor,
@@ -75,8 +83,8 @@ pub enum Next {
 /// ```
 /// use hirtxonda::{Cursor, End, Filled};
 ///
-/// let cursor = Cursor { position: 4, compares: 3, exhausted: true };
-/// let filled = Cursor::fresh().fill(b"ABZAB", b"AB", &mut [0; 8]);
+/// let cursor = Cursor { position: 4, compares: 3, exhausted: true, stop: 5 };
+/// let filled = Cursor::fresh(5).fill(b"ABZAB", b"AB", &mut [0; 8]);
 /// assert_eq!(filled, Ok(Filled { count: 2, cursor, end: End::Absent }));
 /// ```
 #[derive(Clone, Copy, Debug, PartialEq, Eq, Hash)]
@@ -96,22 +104,22 @@ pub struct Filled {
 ///
 /// let mut list = [0; 2];
 /// let mut end = |cursor: Cursor, needle| Ok(cursor.fill(b"ABZAB", needle, &mut list)?.end);
-/// assert_eq!(end(Cursor::fresh(), b"A"), Ok(End::Full));
-/// assert_eq!(end(Cursor::fresh(), b"Z"), Ok(End::Absent));
+/// assert_eq!(end(Cursor::fresh(5), b"A"), Ok(End::Full));
+/// assert_eq!(end(Cursor::fresh(5), b"Z"), Ok(End::Absent));
 ///
 /// // The compare of the first match is one too many for a second.
-/// let cursor = Cursor { compares: MOST_COMPARES, ..Cursor::fresh() };
+/// let cursor = Cursor { compares: MOST_COMPARES, ..Cursor::fresh(5) };
 /// assert_eq!(end(cursor, b"A"), Ok(End::Stopped(Refusal::Compares)));
 ///
 /// // One too many before the first match: that is no end, the fill is refused.
-/// let cursor = Cursor { compares: MOST_COMPARES + 1, ..Cursor::fresh() };
+/// let cursor = Cursor { compares: MOST_COMPARES + 1, ..Cursor::fresh(5) };
 /// assert_eq!(end(cursor, b"A"), Err(Refusal::Compares));
 /// ```
 #[derive(Clone, Copy, Debug, PartialEq, Eq, Hash)]
 pub enum End {
     /// The list is full. Whether there is one more match has not been looked at.
     Full,
-    /// There is no more match; the cursor is exhausted.
+    /// There is no more match up to the cursor's stop; the cursor is exhausted.
     Absent,
     /// After some matches the next was refused, always by [`Refusal::Compares`]: the cursor has
     /// more than [`MOST_COMPARES`] by then. Over one text and needle, no search that began with a
@@ -120,25 +128,34 @@ pub enum End {
 }
 
 impl Cursor {
-    /// The cursor of a first call: 0, 0, not exhausted.
-    ///
-    /// ```
-    /// use hirtxonda::Cursor;
-    ///
-    /// assert_eq!(Cursor::fresh(), Cursor { position: 0, compares: 0, exhausted: false });
-    /// ```
-    pub fn fresh() -> Cursor {
-        Cursor::default()
-    }
-
-    /// The next match of the needle in the text, from the cursor's position on.
+    /// The cursor of a first call: 0, 0, not exhausted, and the stop. The text's length searches
+    /// all of the text, a lower number its front alone.
     ///
     /// ```
     /// use hirtxonda::{Cursor, Next, Refusal};
     ///
-    /// let mut cursor = Cursor::fresh();
+    /// let cursor = Cursor { position: 0, compares: 0, exhausted: false, stop: 5 };
+    /// assert_eq!(Cursor::fresh(5), cursor);
+    ///
+    /// // With the stop one element lower the needle's end is past it; above the text's length it
+    /// // is refused, by the calls that search.
+    /// assert!(matches!(cursor.next(b"ABZAB", b"ZAB"), Ok(Next::Match { position: 2, .. })));
+    /// assert!(matches!(Cursor::fresh(4).next(b"ABZAB", b"ZAB"), Ok(Next::Absent { .. })));
+    /// assert_eq!(Cursor::fresh(6).next(b"ABZAB", b"ZAB"), Err(Refusal::Stop));
+    /// ```
+    pub fn fresh(stop: u64) -> Cursor {
+        Cursor { position: 0, compares: 0, exhausted: false, stop }
+    }
+
+    /// The next match of the needle in the text, from the cursor's position on and up to its stop.
+    ///
+    /// ```
+    /// use hirtxonda::{Cursor, Next, Refusal};
+    ///
+    /// let text = b"ABZAB";
+    /// let mut cursor = Cursor::fresh(text.len() as u64);
     /// let mut positions = Vec::new();
-    /// while let Next::Match { position, cursor: following } = cursor.next(b"ABZAB", b"AB")? {
+    /// while let Next::Match { position, cursor: following } = cursor.next(text, b"AB")? {
     ///     positions.push(position);
     ///     cursor = following;
     /// }
@@ -148,8 +165,8 @@ impl Cursor {
     ///
     /// # Errors
     ///
-    /// [`Refusal::Text`], [`Refusal::Needle`], [`Refusal::Exhausted`], [`Refusal::Position`],
-    /// [`Refusal::Compares`].
+    /// [`Refusal::Text`], [`Refusal::Needle`], [`Refusal::Exhausted`], [`Refusal::Stop`],
+    /// [`Refusal::Position`], [`Refusal::Compares`], tested in this order.
     pub fn next<E: Element>(self, text: &[E], needle: &[E]) -> Result<Next, Refusal> {
         let mut after = self.to_raw();
         let mut position = 0;
@@ -171,11 +188,12 @@ impl Cursor {
     /// ```
     /// use hirtxonda::{Cursor, End, Refusal};
     ///
-    /// let mut cursor = Cursor::fresh();
+    /// let text = b"ABZAB";
+    /// let mut cursor = Cursor::fresh(text.len() as u64);
     /// let mut list = [0; 256];
     /// let mut positions = Vec::new();
     /// loop {
-    ///     let filled = cursor.fill(b"ABZAB", b"AB", &mut list)?;
+    ///     let filled = cursor.fill(text, b"AB", &mut list)?;
     ///     positions.extend_from_slice(&list[..filled.count]);
     ///     match filled.end {
     ///         End::Full => cursor = filled.cursor,
@@ -189,9 +207,10 @@ impl Cursor {
     ///
     /// # Errors
     ///
-    /// [`Refusal::Text`], [`Refusal::Needle`], [`Refusal::Exhausted`], [`Refusal::Position`],
-    /// [`Refusal::Compares`], each before the first match; the whole list is as it was. A number
-    /// after it is no refusal: the fill is stopped, see [`End::Stopped`].
+    /// [`Refusal::Text`], [`Refusal::Needle`], [`Refusal::Exhausted`], [`Refusal::Stop`],
+    /// [`Refusal::Position`], [`Refusal::Compares`], tested in this order and each before the first
+    /// match; the whole list is as it was. A number after it is no refusal: the fill is stopped,
+    /// see [`End::Stopped`].
     pub fn fill<E: Element>(self, text: &[E], needle: &[E], positions: &mut [u64]) -> Result<Filled, Refusal> {
         let mut after = self.to_raw();
         let mut count = 0;
@@ -212,11 +231,13 @@ impl Cursor {
     }
 
     fn to_raw(self) -> raw::Cursor {
-        raw::Cursor { position: self.position, compares: self.compares, exhausted: u64::from(self.exhausted) }
+        let Cursor { position, compares, exhausted, stop } = self;
+        raw::Cursor { position, compares, exhausted: u64::from(exhausted), stop }
     }
 
     fn from_raw(cursor: raw::Cursor) -> Cursor {
-        Cursor { position: cursor.position, compares: cursor.compares, exhausted: cursor.exhausted != 0 }
+        let raw::Cursor { position, compares, exhausted, stop } = cursor;
+        Cursor { position, compares, exhausted: exhausted != 0, stop }
     }
 }
 
@@ -232,7 +253,35 @@ impl Cursor {
 ///
 /// [`Refusal::Text`], [`Refusal::Needle`]. The iterator itself meets no refusal.
 pub fn matches<'a, E: Element>(text: &'a [E], needle: &'a [E]) -> Result<Matches<'a, E>, Refusal> {
-    Matches::new(text, needle, Cursor::fill)
+    matches_until(text, needle, text.len())
+}
+
+/// Every position where the needle stands in the text's first `stop` elements, the least first: the
+/// [`matches()`] of `&text[..stop]`. No match ends past the stop, and what stands past it is not
+/// read.
+///
+/// ```
+/// use hirtxonda::{matches_until, Refusal};
+///
+/// // Two volumes bound in one register; the first has twelve bytes.
+/// let register = b"SMITH JONES SMITHSON SMITH";
+/// assert!(matches_until(register, b"SMITH", 12)?.eq([0]));
+/// assert!(matches_until(register, b"SMITH", register.len())?.eq([0, 12, 21]));
+///
+/// // A name that goes on past the stop is no match.
+/// assert!(matches_until(register, b"SMITH", 16)?.eq([0]));
+/// assert!(matches_until(register, b"SMITH", 17)?.eq([0, 12]));
+///
+/// assert_eq!(matches_until(register, b"SMITH", 27).err(), Some(Refusal::Stop));
+/// # Ok::<(), Refusal>(())
+/// ```
+///
+/// # Errors
+///
+/// [`Refusal::Text`], [`Refusal::Needle`], [`Refusal::Stop`], tested in this order. The iterator
+/// itself meets no refusal.
+pub fn matches_until<'a, E: Element>(text: &'a [E], needle: &'a [E], stop: usize) -> Result<Matches<'a, E>, Refusal> {
+    Matches::new(text, needle, stop, Cursor::fill)
 }
 
 /// [`Cursor::fill`], or the same by the instructions.
@@ -242,7 +291,7 @@ type FillCall<E> = fn(Cursor, &[E], &[E], &mut [u64]) -> Result<Filled, Refusal>
 /// are more to hold and to clone.
 const LONGEST_LIST: usize = 64;
 
-/// The iterator that [`matches()`] gives.
+/// The iterator that [`matches()`] and [`matches_until`] give.
 ///
 /// It takes the positions in lists, as [`Cursor::fill`] does, and gives them one by one. The first
 /// list has one position, and each later one twice as many as the last, up to 64. So it looks no
@@ -273,9 +322,15 @@ pub struct Matches<'a, E: Element> {
 }
 
 impl<'a, E: Element> Matches<'a, E> {
-    pub(crate) fn new(text: &'a [E], needle: &'a [E], fill: FillCall<E>) -> Result<Matches<'a, E>, Refusal> {
+    pub(crate) fn new(
+        text: &'a [E],
+        needle: &'a [E],
+        stop: usize,
+        fill: FillCall<E>,
+    ) -> Result<Matches<'a, E>, Refusal> {
+        let cursor = Cursor::fresh(stop as u64);
         accept_lengths(text, needle)?;
-        let cursor = Cursor::fresh();
+        accept_stop(cursor, text)?;
         Ok(Matches { text, needle, fill, cursor, list: [0; LONGEST_LIST], found: 0, given: 0, wanted: 1 })
     }
 
@@ -304,7 +359,7 @@ impl<'a, E: Element> Matches<'a, E> {
         }
         match (self.fill)(self.cursor, self.text, self.needle, &mut self.list[..self.wanted]) {
             Ok(filled) => (self.cursor, self.found) = (filled.cursor, filled.count),
-            Err(refusal) => unreachable!("the lengths were accepted: {refusal}"),
+            Err(refusal) => unreachable!("the lengths and the stop were accepted: {refusal}"),
         }
         self.wanted = LONGEST_LIST.min(2 * self.wanted);
     }
@@ -347,6 +402,15 @@ pub(crate) fn accept_lengths<E>(text: &[E], needle: &[E]) -> Result<(), Refusal>
         Err(Refusal::Text)
     } else if needle.len() > LONGEST_NEEDLE {
         Err(Refusal::Needle)
+    } else {
+        Ok(())
+    }
+}
+
+/// Refuses a stop above the text's length.
+pub(crate) fn accept_stop<E>(cursor: Cursor, text: &[E]) -> Result<(), Refusal> {
+    if cursor.stop > text.len() as u64 {
+        Err(Refusal::Stop)
     } else {
         Ok(())
     }

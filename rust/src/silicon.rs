@@ -22,7 +22,7 @@ use std::arch::asm;
 use std::arch::x86_64::{__m128i, _mm_cmpestri, _mm_loadu_si128};
 use std::mem::size_of_val;
 
-use crate::search::accept_lengths;
+use crate::search::{accept_lengths, accept_stop};
 use crate::{Cursor, Element, End, Filled, Flags, IndexAnswer, MaskAnswer, Matches, Next, Refusal, MOST_COMPARES};
 
 /// Whether the processor has the instructions.
@@ -181,15 +181,15 @@ calls! {
 /// use hirtxonda::{silicon, Cursor};
 ///
 /// if silicon::available() {
-///     let cursor = Cursor::fresh();
+///     let cursor = Cursor::fresh(5);
 ///     assert_eq!(silicon::next(cursor, b"ABZAB", b"AB"), cursor.next(b"ABZAB", b"AB"));
 /// }
 /// ```
 pub fn next<E: Element>(cursor: Cursor, text: &[E], needle: &[E]) -> Result<Next, Refusal> {
     demand();
-    accept(cursor, text, needle)?;
+    let front = accept(cursor, text, needle)?;
     // SAFETY: the processor has the instructions.
-    Ok(unsafe { walk(cursor, text, needle) })
+    Ok(unsafe { walk(cursor, front, needle) })
 }
 
 /// [`Cursor::fill`] by the instructions: [`next`] repeated.
@@ -198,7 +198,7 @@ pub fn next<E: Element>(cursor: Cursor, text: &[E], needle: &[E]) -> Result<Next
 /// use hirtxonda::{silicon, Cursor};
 ///
 /// if silicon::available() {
-///     let (cursor, mut real, mut proved) = (Cursor::fresh(), [0; 8], [0; 8]);
+///     let (cursor, mut real, mut proved) = (Cursor::fresh(5), [0; 8], [0; 8]);
 ///     let by_instructions = silicon::fill(cursor, b"ABZAB", b"AB", &mut real);
 ///     assert_eq!(by_instructions, cursor.fill(b"ABZAB", b"AB", &mut proved));
 ///     assert_eq!(real, proved);
@@ -235,25 +235,44 @@ pub fn fill<E: Element>(
 /// # Ok::<(), hirtxonda::Refusal>(())
 /// ```
 pub fn matches<'a, E: Element>(text: &'a [E], needle: &'a [E]) -> Result<Matches<'a, E>, Refusal> {
-    demand();
-    Matches::new(text, needle, fill)
+    matches_until(text, needle, text.len())
 }
 
-/// Refuses what the search refuses, by the lowest number.
-fn accept<E>(cursor: Cursor, text: &[E], needle: &[E]) -> Result<(), Refusal> {
+/// [`matches_until`](crate::matches_until) by the instructions.
+///
+/// ```
+/// use hirtxonda::silicon;
+///
+/// if silicon::available() {
+///     let mut matches = silicon::matches_until(b"ABZAB", b"AB", 4)?;
+///     assert_eq!(matches.by_ref().collect::<Vec<_>>(), [0]);
+///     assert_eq!(matches.compares(), 2);
+/// }
+/// # Ok::<(), hirtxonda::Refusal>(())
+/// ```
+pub fn matches_until<'a, E: Element>(text: &'a [E], needle: &'a [E], stop: usize) -> Result<Matches<'a, E>, Refusal> {
+    demand();
+    Matches::new(text, needle, stop, fill)
+}
+
+/// Refuses what the search refuses, in its order. Accepted, it gives the text up to the stop: all
+/// that is searched.
+fn accept<'a, E>(cursor: Cursor, text: &'a [E], needle: &[E]) -> Result<&'a [E], Refusal> {
     accept_lengths(text, needle)?;
     if cursor.exhausted {
         return Err(Refusal::Exhausted);
     }
-    if cursor.position > text.len() as u64 + 1 {
+    accept_stop(cursor, text)?;
+    if cursor.position > cursor.stop + 1 {
         return Err(Refusal::Position);
     }
     if cursor.compares > MOST_COMPARES {
         return Err(Refusal::Compares);
     }
-    Ok(())
+    Ok(&text[..cursor.stop as usize])
 }
 
+/// One call's walk over the text up to the stop.
 #[target_feature(enable = "sse4.2")]
 fn walk<E: Element>(mut cursor: Cursor, text: &[E], needle: &[E]) -> Next {
     let (n, m) = (text.len(), needle.len());
