@@ -4,12 +4,11 @@
 
 mod common;
 
-use std::collections::HashMap;
-
-use common::search::{check_call, needle_for, plant};
-use common::{in_both_widths, list_compares, positions, put, search_refusal, silicon_available, stands, text};
-use common::{walk_compares, Letter, Random, ALPHABETS, ANY, ONE, TWO};
-use hirtxonda::{matches, Cursor, End, Filled, Next, Refusal, LONGEST_NEEDLE, LONGEST_TEXT, MOST_COMPARES};
+use common::fills::{check_fill, mixed, next_matches, Tally};
+use common::search::{needle_for, plant, refused_for};
+use common::{fresh, in_both_widths, list_compares, positions, put, silicon_available, text, walk_compares};
+use common::{Letter, Random, ALPHABETS, ANY, ONE, TWO};
+use hirtxonda::{matches, Cursor, End, Filled, Refusal, LONGEST_NEEDLE, LONGEST_TEXT, MOST_COMPARES};
 
 in_both_widths! {
     every_size_up_to_16
@@ -21,75 +20,6 @@ in_both_widths! {
     the_limits_and_one_more
     several_refusals_at_once
     the_iterator_in_lists
-}
-
-// ---- one fill, three ways
-
-/// What stands in each place of a list before a call.
-const BEFORE: u64 = 0xa5a5_a5a5_a5a5_a5a5;
-
-/// [`Cursor::fill`], or the same by the instructions.
-type Fill<E> = fn(Cursor, &[E], &[E], &mut [u64]) -> Result<Filled, Refusal>;
-
-/// The answer of a fill, and the positions that it found.
-type Answer = (Result<Filled, Refusal>, Vec<u64>);
-
-/// A fill of a list of so many places. The rest of the list, and the places beside it, must be as
-/// they were.
-fn run<E: Letter>(fill: Fill<E>, cursor: Cursor, (text, needle): (&[E], &[E]), length: usize) -> Answer {
-    let mut places = vec![BEFORE; length + 2];
-    let answer = fill(cursor, text, needle, &mut places[1..=length]);
-    let found = answer.map_or(0, |filled| filled.count);
-    assert!(found <= length, "{found} positions in a list of {length}");
-    assert_eq!(places[0], BEFORE, "before the list");
-    let changed = places[1 + found..].iter().position(|&place| place != BEFORE);
-    assert_eq!(changed, None, "after {found} positions in a list of {length}");
-    (answer, places[1..=found].to_vec())
-}
-
-/// What a fill must answer and find, by comparing elements one by one. The compares of each match
-/// are added up; with too many of them no further match is looked for.
-fn expected<E: Letter>(cursor: Cursor, (text, needle): (&[E], &[E]), length: usize) -> Answer {
-    if let Some(refusal) = search_refusal(text.len(), needle.len(), cursor) {
-        return (Err(refusal), Vec::new());
-    }
-    let mut cursor = cursor;
-    let mut found = Vec::new();
-    let compares_from = |cursor: Cursor| walk_compares(text, needle, cursor.position as usize);
-    for position in (cursor.position as usize..=text.len()).filter(|&p| stands(text, needle, p)).take(length) {
-        if cursor.compares > MOST_COMPARES {
-            break;
-        }
-        cursor.compares += compares_from(cursor);
-        cursor.position = position as u64 + 1;
-        found.push(position as u64);
-    }
-    let end = if found.len() == length {
-        End::Full
-    } else if cursor.compares > MOST_COMPARES {
-        End::Stopped(Refusal::Compares)
-    } else {
-        cursor.compares += compares_from(cursor);
-        cursor.exhausted = true;
-        End::Absent
-    };
-    (Ok(Filled { count: found.len(), cursor, end }), found)
-}
-
-fn check_fill<E: Letter>(real: bool, cursor: Cursor, over: (&[E], &[E]), length: usize) -> Answer {
-    let given = run(Cursor::fill, cursor, over, length);
-    let check = |wanted: Answer, whose: &str| {
-        let what = || format!("{cursor:?}, n = {}, needle {:02x?}, list of {length}", over.0.len(), over.1);
-        assert_eq!(given.0, wanted.0, "against {whose}: {}", what());
-        let differs = given.1.iter().zip(&wanted.1).position(|(given, wanted)| given != wanted);
-        assert_eq!(differs, None, "against {whose}: {}", what());
-    };
-    #[cfg(target_arch = "x86_64")]
-    if real {
-        check(run(hirtxonda::silicon::fill, cursor, over, length), "the instructions");
-    }
-    check(expected(cursor, over, length), "brute force");
-    given
 }
 
 // ---- the same cases in every run
@@ -112,7 +42,7 @@ fn every_size_up_to_16<E: Letter>() {
             put(&mut text, random.below(n + 1), &needle);
             for position in 0..=n as u64 + 1 {
                 for length in 0..=n + 2 {
-                    let cursor = Cursor { position, ..Cursor::fresh() };
+                    let cursor = Cursor { position, ..fresh(&text) };
                     let (answer, _) = check_fill(real, cursor, (&text, &needle), length);
                     assert!(answer.is_ok());
                 }
@@ -132,14 +62,15 @@ fn endings_about_the_most_compares<E: Letter>() {
             let over = (&text[..], &text[..m]);
             let accepted = left / each + 1;
             for length in 0..=matches + 2 {
-                let cursor = Cursor { compares: MOST_COMPARES - left as u64, ..Cursor::fresh() };
+                let cursor = Cursor { compares: MOST_COMPARES - left as u64, ..fresh(&text) };
                 let (count, end) = match () {
                     _ if length <= accepted.min(matches) => (length, End::Full),
                     _ if accepted <= matches => (accepted, End::Stopped(Refusal::Compares)),
                     _ => (matches, End::Absent),
                 };
                 let compares = cursor.compares + (count * each) as u64;
-                let cursor_after = Cursor { position: count as u64, compares, exhausted: end == End::Absent };
+                let (position, exhausted) = (count as u64, end == End::Absent);
+                let cursor_after = Cursor { position, compares, exhausted, ..cursor };
                 let (answer, found) = check_fill(real, cursor, over, length);
                 assert_eq!(answer, Ok(Filled { count, cursor: cursor_after, end }));
                 assert!(found.iter().copied().eq(0..count as u64));
@@ -165,7 +96,7 @@ fn a_list_as_long_as_the_matches<E: Letter>() {
         let needle = needle_for(&mut random, &text, number % ALPHABETS, m);
         plant(&mut random, &mut text, &needle);
         let (over, all) = ((&text[..], &needle[..]), positions(&text, &needle));
-        let (answer, found) = check_fill(real, Cursor::fresh(), over, all.len());
+        let (answer, found) = check_fill(real, fresh(&text), over, all.len());
         let Ok(Filled { count, cursor, end: End::Full }) = answer else { panic!("{answer:?}") };
         assert_eq!(count, all.len());
         assert!(found.iter().map(|&position| position as usize).eq(all.iter().copied()));
@@ -175,7 +106,7 @@ fn a_list_as_long_as_the_matches<E: Letter>() {
         let ended = |count| Ok(Filled { count, cursor: after_all, end: End::Absent });
         assert_eq!(check_fill(real, cursor, over, 0).0, Ok(Filled { count: 0, cursor, end: End::Full }));
         assert_eq!(check_fill(real, cursor, over, 1).0, ended(0));
-        assert_eq!(check_fill(real, Cursor::fresh(), over, all.len() + 1).0, ended(all.len()));
+        assert_eq!(check_fill(real, fresh(&text), over, all.len() + 1).0, ended(all.len()));
     }
 }
 
@@ -188,7 +119,7 @@ fn an_empty_list<E: Letter>() {
         for needle in [&[][..], &[E::cut(0x5a5a)], &[E::cut(0)]] {
             let fill = |cursor| check_fill(real, cursor, (&text, needle), 0).0;
             for (position, compares) in [0, n, n + 1].into_iter().flat_map(|p| [0, 1, MOST_COMPARES].map(|c| (p, c))) {
-                let cursor = Cursor { position, compares, exhausted: false };
+                let cursor = Cursor { position, compares, ..fresh(&text) };
                 assert_eq!(fill(cursor), Ok(Filled { count: 0, cursor, end: End::Full }));
                 assert_eq!(fill(Cursor { exhausted: true, ..cursor }), Err(Refusal::Exhausted));
                 assert_eq!(fill(Cursor { position: n + 2, ..cursor }), Err(Refusal::Position));
@@ -205,11 +136,11 @@ fn positions_about_the_texts_end<E: Letter>() {
     for n in 1..=2 * E::BLOCK + 1 {
         let text: Vec<E> = one_letter(n);
         let fill = |needle: &[E], position: usize| {
-            let cursor = Cursor { position: position as u64, compares: 7, exhausted: false };
+            let cursor = Cursor { position: position as u64, compares: 7, ..fresh(&text) };
             check_fill(real, cursor, (&text, needle), 3).0
         };
         let absent = |count, position: usize, compares| {
-            let cursor = Cursor { position: position as u64, compares, exhausted: true };
+            let cursor = Cursor { position: position as u64, compares, exhausted: true, ..fresh(&text) };
             Ok(Filled { count, cursor, end: End::Absent })
         };
         assert_eq!(fill(&[], n - 1), absent(2, n + 1, 7));
@@ -231,8 +162,8 @@ fn the_longest_text<E: Letter>() {
     for m in [0, 1, E::BLOCK + 1] {
         let matches = LONGEST_TEXT + 1 - m;
         let compares = (matches * m.div_ceil(E::BLOCK)) as u64;
-        let cursor = Cursor { position: matches as u64, compares, exhausted: true };
-        let (answer, found) = check_fill(real, Cursor::fresh(), (&one, &one[..m]), LONGEST_TEXT + 2);
+        let cursor = Cursor { position: matches as u64, compares, exhausted: true, ..fresh(&one) };
+        let (answer, found) = check_fill(real, fresh(&one), (&one, &one[..m]), LONGEST_TEXT + 2);
         assert_eq!(answer, Ok(Filled { count: matches, cursor, end: End::Absent }));
         assert!(found.into_iter().eq(0..matches as u64));
     }
@@ -242,7 +173,7 @@ fn the_longest_text<E: Letter>() {
     let last = LONGEST_TEXT - LONGEST_NEEDLE;
     put(&mut drawn, 12_345, &needle);
     put(&mut drawn, last, &needle);
-    let (answer, found) = check_fill(real, Cursor::fresh(), (&drawn, &needle), 3);
+    let (answer, found) = check_fill(real, fresh(&drawn), (&drawn, &needle), 3);
     assert_eq!(found, [12_345, last as u64]);
     assert_eq!(answer.map(|filled| filled.end), Ok(End::Absent));
 }
@@ -253,7 +184,7 @@ fn the_limits_and_one_more<E: Letter>() {
     let text: Vec<E> = one_letter(LONGEST_TEXT + 1);
     for length in [0, 1, 5] {
         let fill = |n: usize, m: usize| {
-            let (answer, _) = check_fill(real, Cursor::fresh(), (&text[..n], &text[..m]), length);
+            let (answer, _) = check_fill(real, fresh(&text[..n]), (&text[..n], &text[..m]), length);
             answer.map(|filled| (filled.count, filled.end))
         };
         assert_eq!(fill(LONGEST_TEXT, 1), Ok((length, End::Full)));
@@ -267,21 +198,14 @@ fn the_limits_and_one_more<E: Letter>() {
     }
 }
 
-/// Every set of conditions, each one past its limit: the lowest number is given.
+/// Every set of conditions, each one past its limit: the first in the order of the tests is given.
 fn several_refusals_at_once<E: Letter>() {
     let real = silicon_available("several_refusals_at_once");
     let text: Vec<E> = one_letter(LONGEST_TEXT + 1);
-    let numbers = [Refusal::Text, Refusal::Needle, Refusal::Exhausted, Refusal::Position, Refusal::Compares];
-    for (conditions, length) in (1..32usize).flat_map(|conditions| [0, 1, 5].map(|length| (conditions, length))) {
-        let holds = |condition: usize| conditions >> condition & 1;
-        let n = if holds(0) == 1 { LONGEST_TEXT + 1 } else { 20 };
-        let m = LONGEST_NEEDLE * holds(1) + 1;
-        let position = (n + 2) as u64 * holds(3) as u64;
-        let compares = (MOST_COMPARES + 1) * holds(4) as u64;
-        let cursor = Cursor { position, compares, exhausted: holds(2) == 1 };
-        let lowest = numbers[conditions.trailing_zeros() as usize];
+    for (conditions, length) in (1..64usize).flat_map(|conditions| [0, 1, 5].map(|length| (conditions, length))) {
+        let (n, m, cursor, first) = refused_for(conditions);
         let (answer, _) = check_fill(real, cursor, (&text[..n], &text[..m]), length);
-        assert_eq!(answer, Err(lowest), "list of {length}");
+        assert_eq!(answer, Err(first), "conditions {conditions:06b}, list of {length}");
     }
 }
 
@@ -331,7 +255,7 @@ fn the_iterator_shows_what_is_ahead() {
 /// before the last match.
 fn draw_cursor<E: Letter>(random: &mut Random, text: &[E], needle: &[E]) -> Cursor {
     if random.one_in(3) {
-        return Cursor::fresh();
+        return fresh(text);
     }
     let n = text.len() as u64;
     let position = match random.below(16) {
@@ -349,67 +273,7 @@ fn draw_cursor<E: Letter>(random: &mut Random, text: &[E], needle: &[E]) -> Curs
         4 => 0,
         _ => MOST_COMPARES - random.draw() % (list_compares(text, needle) + 2),
     };
-    Cursor { position, compares, exhausted: random.one_in(16) }
-}
-
-/// How a list of calls over one text and needle ended: with no more match, or refused.
-type Ended = Result<(), Refusal>;
-
-/// Next matches alone, up to the call that gives none: their positions, the last cursor, the end.
-fn next_matches<E: Letter>(mut cursor: Cursor, text: &[E], needle: &[E]) -> (Vec<u64>, Cursor, Ended) {
-    let mut found = Vec::new();
-    loop {
-        match cursor.next(text, needle) {
-            Ok(Next::Match { position, cursor: following }) => {
-                found.push(position as u64);
-                cursor = following;
-            }
-            Ok(Next::Absent { cursor }) => return (found, cursor, Ok(())),
-            Err(refusal) => return (found, cursor, Err(refusal)),
-        }
-    }
-}
-
-/// How often a call has ended so.
-type Tally = HashMap<String, usize>;
-
-/// The same with next matches and fills mixed, each with the cursor of the last and each held to
-/// brute force and to the instructions.
-fn mixed<E: Letter>(
-    (random, tally): (&mut Random, &mut Tally),
-    real: bool,
-    mut cursor: Cursor,
-    (text, needle): (&[E], &[E]),
-) -> (Vec<u64>, Cursor, Ended) {
-    let mut found = Vec::new();
-    loop {
-        let length = match random.below(4) {
-            0 => random.pick(&[0, 1]),
-            1 => random.below(12),
-            2 => random.below(text.len() + 3),
-            _ => {
-                match check_call(real, cursor, text, needle) {
-                    Ok(Next::Match { position, cursor: following }) => {
-                        found.push(position as u64);
-                        cursor = following;
-                    }
-                    Ok(Next::Absent { cursor }) => return (found, cursor, Ok(())),
-                    Err(refusal) => return (found, cursor, Err(refusal)),
-                }
-                continue;
-            }
-        };
-        let (answer, more) = check_fill(real, cursor, (text, needle), length);
-        let size = if length == 0 { "an empty list" } else { "a list" };
-        *tally.entry(format!("{size}: {:?}", answer.map(|filled| filled.end))).or_insert(0) += 1;
-        found.extend(more);
-        match answer {
-            Ok(Filled { cursor: following, end: End::Full, .. }) => cursor = following,
-            Ok(Filled { cursor, end: End::Absent, .. }) => return (found, cursor, Ok(())),
-            Ok(Filled { cursor, end: End::Stopped(refusal), .. }) => return (found, cursor, Err(refusal)),
-            Err(refusal) => return (found, cursor, Err(refusal)),
-        }
-    }
+    Cursor { position, compares, exhausted: random.one_in(16), stop: n }
 }
 
 /// Mixtures beside next matches alone, from fresh cursors and from made-up ones.

@@ -1,5 +1,5 @@
-//! The raw C calls: each number at its edge (those of a report: `report.rs`), the lowest where
-//! several apply, and nothing written by a refused call.
+//! The raw C calls: each number at its edge (those of a report: `report.rs`), the first in the
+//! order of the tests where several apply, and nothing written by a refused call.
 
 mod common;
 #[allow(dead_code)]
@@ -34,7 +34,7 @@ fn written<T: Copy + PartialEq + std::fmt::Debug>(sentinel: T, call: impl FnOnce
 #[test]
 fn listed_numbers() {
     let listed: Vec<u32> = (0..1000).filter(|&number| Refusal::from_number(number).is_some()).collect();
-    assert_eq!(listed, [1, 2, 3, 4, 5, 6, 7, 8, 21, 22, 23, 24]);
+    assert_eq!(listed, [1, 2, 3, 4, 5, 6, 7, 8, 21, 22, 23, 24, 31]);
     for number in listed {
         let refusal = Refusal::from_number(number).unwrap();
         assert_eq!(refusal.number(), number);
@@ -51,7 +51,7 @@ fn header() {
         let value = line.split_whitespace().nth(2).unwrap().trim_start_matches("UINT64_C(");
         value.trim_end_matches([')', 'u']).parse::<usize>().expect(name)
     };
-    assert_eq!(header.lines().filter(|line| line.starts_with("#define HX_") && line.contains("_REFUSED ")).count(), 12);
+    assert_eq!(header.lines().filter(|line| line.starts_with("#define HX_") && line.contains("_REFUSED ")).count(), 13);
     for number in (0..100).filter_map(Refusal::from_number) {
         let name = format!("{number:?}_REFUSED").to_uppercase();
         assert_eq!(defined(&name), number.number() as usize);
@@ -97,30 +97,57 @@ fn controls() {
 
 #[test]
 fn fresh_cursor() {
-    let mut cursor = raw::Cursor { position: SENTINEL, compares: SENTINEL, exhausted: SENTINEL };
-    // SAFETY: see `controls`.
-    unsafe { hx_cursor_fresh(&mut cursor) };
-    assert_eq!(cursor, raw::Cursor { position: 0, compares: 0, exhausted: 0 });
+    for stop in [0, 1, LONGEST_TEXT as u64, 1 << 63, u64::MAX] {
+        let mut cursor = raw::Cursor { position: SENTINEL, compares: SENTINEL, exhausted: SENTINEL, stop: SENTINEL };
+        // SAFETY: see `controls`.
+        unsafe { hx_cursor_fresh(&mut cursor, stop) };
+        assert_eq!(cursor, raw::Cursor { position: 0, compares: 0, exhausted: 0, stop });
+    }
 }
 
-/// Every set of conditions out of 2, 3, 21, 22, 23, each one past its limit or at it.
+/// The cursor that the numbers stand for.
+fn cursor_of(numbers: raw::Cursor) -> Cursor {
+    let raw::Cursor { position, compares, exhausted, stop } = numbers;
+    Cursor { position, compares, exhausted: exhausted != 0, stop }
+}
+
+/// What refuses a search, in the order of the tests, and the sets of these conditions, a bit for
+/// each.
+const ORDER: [u32; 6] = [2, 3, 21, 31, 22, 23];
+const SETS: std::ops::Range<usize> = 0..64;
+
+/// Calls for which just these conditions hold, each one past its limit or at it: the lengths of
+/// text and needle, and cursors. These have several numbers for exhausted and for a stop above n;
+/// one that is accepted is n, one less or 0.
+fn calls_for(conditions: usize) -> (usize, usize, Vec<raw::Cursor>) {
+    let past = |condition: u32| conditions >> condition & 1;
+    let (n, m) = (LONGEST_TEXT + past(0), LONGEST_NEEDLE + past(1));
+    let compares = MOST_COMPARES + past(5) as u64;
+    let exhausted = if past(2) == 1 { &[1, 2, 256, 1 << 32, u64::MAX][..] } else { &[0] };
+    let end = n as u64;
+    let stops = if past(3) == 1 { [end + 1, 1 << 63, u64::MAX] } else { [end, end - 1, 0] };
+    let with = |stop: u64, exhausted| {
+        let position = stop.wrapping_add(1 + past(4) as u64);
+        raw::Cursor { position, compares, exhausted, stop }
+    };
+    (n, m, stops.into_iter().flat_map(|stop| exhausted.iter().map(move |&each| with(stop, each))).collect())
+}
+
+/// Every set of conditions: the first number is given. Where none holds, there is no more match.
 fn next<E: Calls + Clone + Default>() {
     let text = vec![E::default(); LONGEST_TEXT + 1];
     let needle = vec![E::default(); LONGEST_NEEDLE + 1];
-    for conditions in 0..32usize {
-        let past = |condition: u32| conditions >> condition & 1;
-        let (n, m) = (LONGEST_TEXT + past(0), LONGEST_NEEDLE + past(1));
-        let (position, compares) = (n as u64 + 1 + past(3) as u64, MOST_COMPARES + past(4) as u64);
-        for exhausted in if past(2) == 1 { &[1, 2, 256, 1 << 32, u64::MAX][..] } else { &[0] } {
-            let cursor = raw::Cursor { position, compares, exhausted: *exhausted };
+    for conditions in SETS {
+        let (n, m, cursors) = calls_for(conditions);
+        for cursor in cursors {
             // SAFETY: see `controls`.
             let (number, (after, place)) = with_sentinel((cursor, SENTINEL), |p| unsafe {
                 E::NEXT(&mut (*p).0, text.as_ptr(), n, needle.as_ptr(), m, &mut (*p).1)
             });
-            let expected = search_refusal(n, m, Cursor { position, compares, exhausted: past(2) == 1 });
-            assert_eq!(number, expected.map_or(ABSENT, Refusal::number), "conditions {conditions:05b}");
+            let expected = *ORDER.get(conditions.trailing_zeros() as usize).unwrap_or(&ABSENT);
+            assert_eq!(number, expected, "conditions {conditions:06b}, {cursor:?}");
             let absent = raw::Cursor { exhausted: 1, ..cursor };
-            assert_eq!(after, if expected.is_none() { absent } else { cursor });
+            assert_eq!(after, if expected == ABSENT { absent } else { cursor });
             assert_eq!(place, SENTINEL);
         }
     }
@@ -176,35 +203,33 @@ fn fill<E: Calls>(
 fn fills<E: Calls + Clone + Default>() {
     let text = vec![E::default(); LONGEST_TEXT + 1];
     let needle = vec![E::default(); LONGEST_NEEDLE + 1];
-    for (conditions, length) in (0..32usize).flat_map(|conditions| [0, 1, 5].map(|length| (conditions, length))) {
-        let past = |condition: u32| conditions >> condition & 1;
-        let (n, m) = (LONGEST_TEXT + past(0), LONGEST_NEEDLE + past(1));
-        let (position, compares) = (n as u64 + 1 + past(3) as u64, MOST_COMPARES + past(4) as u64);
-        for exhausted in if past(2) == 1 { &[1, 2, 256, 1 << 32, u64::MAX][..] } else { &[0] } {
-            let cursor = raw::Cursor { position, compares, exhausted: *exhausted };
+    for (conditions, length) in SETS.flat_map(|conditions| [0, 1, 5].map(|length| (conditions, length))) {
+        let (n, m, cursors) = calls_for(conditions);
+        for cursor in cursors {
             let before = Places::with(cursor);
-            let expected = match search_refusal(n, m, Cursor { position, compares, exhausted: past(2) == 1 }) {
-                Some(refusal) => (refusal.number(), before),
+            let expected = match ORDER.get(conditions.trailing_zeros() as usize) {
+                Some(&number) => (number, before),
                 None if length == 0 => (FULL, before.filled(0, cursor)),
                 None => (ABSENT, before.filled(0, raw::Cursor { exhausted: 1, ..cursor })),
             };
             let given = fill(before, (&text, n), (&needle, m), length);
-            assert_eq!(given, expected, "conditions {conditions:05b}, list of {length}");
+            assert_eq!(given, expected, "conditions {conditions:06b}, {cursor:?}, list of {length}");
         }
     }
 }
 
-/// Five matches of one compare each. Number 23 refuses a fill before the first of them, and then
-/// nothing is written; after some it stops it, and then these are. A list that is full by then is
-/// full.
+/// Five matches of one compare each up to the stop, whether or not the text ends there. Number 23
+/// refuses a fill before the first of them, and then nothing is written; after some it stops it,
+/// and then these are. A list that is full by then is full.
 fn stopped_fills<E: Calls + Clone + Default>() {
-    let text = vec![E::default(); 5];
+    let text = vec![E::default(); 7];
     for left in -2i64..8 {
         for length in 0..=8 {
             let compares = MOST_COMPARES.wrapping_add_signed(-left);
-            let before = Places::with(raw::Cursor { position: 0, compares, exhausted: 0 });
+            let before = Places::with(raw::Cursor { position: 0, compares, exhausted: 0, stop: 5 });
             let after = |count: usize, exhausted| {
-                let cursor = raw::Cursor { position: count as u64, compares: compares + count as u64, exhausted };
+                let (position, compares) = (count as u64, compares + count as u64);
+                let cursor = raw::Cursor { position, compares, exhausted, stop: 5 };
                 before.filled(count, cursor)
             };
             let accepted = (left + 1).max(0) as usize;
@@ -214,8 +239,10 @@ fn stopped_fills<E: Calls + Clone + Default>() {
                 _ if accepted <= 5 => (23, after(accepted, 0)),
                 _ => (ABSENT, after(5, 1)),
             };
-            let given = fill(before, (&text, 5), (&text, 1), length);
-            assert_eq!(given, expected, "{left} compares left, list of {length}");
+            for n in 5..=7 {
+                let given = fill(before, (&text, n), (&text, 1), length);
+                assert_eq!(given, expected, "{left} compares left, n = {n}, list of {length}");
+            }
         }
     }
 }
@@ -230,19 +257,23 @@ fn made_up_cursors<E: Calls + Clone + Default>() {
             let (number, (after, place)) = with_sentinel((cursor, SENTINEL), |p| unsafe {
                 E::NEXT(&mut (*p).0, needle.as_ptr(), n, needle.as_ptr(), m, &mut (*p).1)
             });
-            let raw::Cursor { position, compares, exhausted } = cursor;
-            match search_refusal(n, m, Cursor { position, compares, exhausted: exhausted != 0 }) {
+            let refused = search_refusal(n, m, cursor_of(cursor));
+            match refused {
                 Some(refusal) => assert_eq!((number, after, place), (refusal.number(), cursor, SENTINEL)),
-                None => assert!(number == 0 || number == ABSENT, "{cursor:?}, n = {n}, m = {m}: {number}"),
+                None => {
+                    assert!(number == 0 || number == ABSENT, "{cursor:?}, n = {n}, m = {m}: {number}");
+                    assert_eq!(after.stop, cursor.stop);
+                }
             }
             for length in [0, 1, 5] {
                 let before = Places::with(cursor);
                 let (number, after) = fill(before, (&needle, n), (&needle, m), length);
-                match search_refusal(n, m, Cursor { position, compares, exhausted: exhausted != 0 }) {
+                match refused {
                     Some(refusal) => assert_eq!((number, after), (refusal.number(), before)),
                     None => {
                         assert!([FULL, ABSENT, 23].contains(&number), "{cursor:?}, n = {n}, m = {m}: {number}");
                         assert!(after.count <= length, "{cursor:?}, n = {n}, m = {m}: {after:?}");
+                        assert_eq!(after.cursor.stop, cursor.stop);
                     }
                 }
             }
@@ -251,11 +282,16 @@ fn made_up_cursors<E: Calls + Clone + Default>() {
 }
 
 fn some_cursors(n: u64) -> Vec<raw::Cursor> {
-    let positions = [0, 1, n, n + 1, n + 2, 1 << 32, 1 << 63, u64::MAX];
-    let compares = [0, MOST_COMPARES - 1, MOST_COMPARES, MOST_COMPARES + 1, 1 << 63, u64::MAX];
-    let pairs = positions.into_iter().flat_map(|position| compares.map(|compares| (position, compares)));
-    let with = |(position, compares), exhausted| raw::Cursor { position, compares, exhausted };
-    pairs.flat_map(|pair| [0, 1, 2, 1 << 32, u64::MAX].map(|exhausted| with(pair, exhausted))).collect()
+    let mut cursors = Vec::new();
+    for stop in [0, n / 2, n, n + 1, 1 << 63, u64::MAX - 1, u64::MAX] {
+        for position in [0, 1, n / 2 + 1, n / 2 + 2, n, n + 1, n + 2, 1 << 32, 1 << 63, u64::MAX] {
+            for compares in [0, MOST_COMPARES - 1, MOST_COMPARES, MOST_COMPARES + 1, 1 << 63, u64::MAX] {
+                let with = |exhausted| raw::Cursor { position, compares, exhausted, stop };
+                cursors.extend([0, 1, 2, 1 << 32, u64::MAX].map(with));
+            }
+        }
+    }
+    cursors
 }
 
 in_both_widths! {
@@ -344,7 +380,7 @@ fn signed_numbers() {
 #[test]
 fn refused_lengths_are_not_read() {
     let (byte, word) = ([1u8], [1u16]);
-    let cursor = raw::Cursor { position: 0, compares: 0, exhausted: 0 };
+    let cursor = raw::Cursor { position: 0, compares: 0, exhausted: 0, stop: 1 };
     for huge in [LONGEST_TEXT + 1, 1 << 32, 1 << 62, usize::MAX / 2, usize::MAX] {
         // SAFETY: the header allows it, since no element is read.
         unsafe {

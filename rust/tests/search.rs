@@ -4,7 +4,7 @@
 mod common;
 
 use common::search::{check_call, check_list, needle_for, on_silicon, plant};
-use common::{positions, silicon_available, text, Letter, Random, ALPHABETS};
+use common::{fresh, positions, silicon_available, text, Letter, Random, ALPHABETS};
 use hirtxonda::{matches, Cursor, Next, Refusal, LONGEST_NEEDLE, LONGEST_TEXT, MOST_COMPARES};
 
 fn lists<E: Letter>(test: &str, count: usize, longest_text: usize, longest_needle: usize) {
@@ -41,8 +41,8 @@ fn longer_texts_in_words() {
     lists::<u16>("longer_texts_in_words", 4_000, 4000, LONGEST_NEEDLE);
 }
 
-/// Cursors that no list of calls gives, at every edge and at random; and another text or needle for
-/// a cursor on its way.
+/// Cursors that no list of calls gives, at every edge and at random, with stops of all sizes; and
+/// another text or needle for a cursor on its way.
 fn cursors<E: Letter>(test: &str) {
     let mut random = Random::for_test(test);
     let real = silicon_available(test);
@@ -53,10 +53,17 @@ fn cursors<E: Letter>(test: &str) {
         let m = if random.one_in(16) { LONGEST_NEEDLE + random.below(2) } else { random.size(E::BLOCK, 2 * E::BLOCK) };
         let text: Vec<E> = text(&mut random, alphabet, n);
         let needle = needle_for(&mut random, &text, alphabet, m);
-        let position = match random.below(8) {
+        let stop = match random.below(16) {
             0 => u64::MAX - random.below(3) as u64,
             1 => random.draw(),
             2 => n as u64 + random.below(4) as u64,
+            3..=8 => random.below(n + 1) as u64,
+            _ => n as u64,
+        };
+        let position = match random.below(8) {
+            0 => u64::MAX - random.below(3) as u64,
+            1 => random.draw(),
+            2 => stop.wrapping_add(random.below(4) as u64),
             _ => random.below(n + 2) as u64,
         };
         let compares = match random.below(4) {
@@ -65,10 +72,11 @@ fn cursors<E: Letter>(test: &str) {
             2 => u64::MAX - random.below(2) as u64,
             _ => random.draw() % (MOST_COMPARES + 1),
         };
-        let answer = check_call(real, Cursor { position, compares, exhausted: random.one_in(8) }, &text, &needle);
+        let cursor = Cursor { position, compares, exhausted: random.one_in(8), stop };
+        let answer = check_call(real, cursor, &text, &needle);
         *refused.entry(answer.err()).or_insert(0) += 1;
     }
-    for refusal in [Refusal::Needle, Refusal::Exhausted, Refusal::Position, Refusal::Compares] {
+    for refusal in [Refusal::Needle, Refusal::Exhausted, Refusal::Stop, Refusal::Position, Refusal::Compares] {
         assert!(refused.contains_key(&Some(refusal)), "{refusal:?} never came up");
     }
 }
@@ -94,7 +102,7 @@ fn at_the_limits<E: Letter>(test: &str) {
         let longest = &mut text[..LONGEST_TEXT];
         longest[LONGEST_TEXT - m..].copy_from_slice(&needle);
         let mut found: Vec<usize> = Vec::new();
-        let mut cursor = Cursor::fresh();
+        let mut cursor = fresh(longest);
         while let Next::Match { position, cursor: following } = cursor.next(longest, &needle).expect("accepted") {
             if let Some(by_instructions) = on_silicon(real, cursor, longest, &needle) {
                 assert_eq!(by_instructions, Ok(Next::Match { position, cursor: following }));
@@ -125,7 +133,7 @@ fn at_the_limits_in_words() {
 /// Document 01's specimens S1 to S5: the first match and the compares of the first call.
 #[test]
 fn specimens() {
-    let first = |text: &[u8], needle: &[u8]| match Cursor::fresh().next(text, needle) {
+    let first = |text: &[u8], needle: &[u8]| match fresh(text).next(text, needle) {
         Ok(Next::Match { position, cursor }) => (Some(position), cursor.compares),
         Ok(Next::Absent { cursor }) => (None, cursor.compares),
         Err(refusal) => panic!("{refusal}"),

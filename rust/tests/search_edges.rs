@@ -4,7 +4,7 @@
 mod common;
 
 use common::search::{check_call, check_list};
-use common::{changed, in_both_widths, put, silicon_available, stands, text, Letter, Random};
+use common::{changed, fresh, in_both_widths, put, silicon_available, stands, text, Letter, Random};
 use common::{ANY, ENDS, HALVES, ONE, TWO};
 use hirtxonda::{Cursor, Next, Refusal, LONGEST_NEEDLE, LONGEST_TEXT, MOST_COMPARES};
 
@@ -35,13 +35,14 @@ fn one_letter<E: Letter>(n: usize) -> Vec<E> {
     vec![E::cut(0x5a5a); n]
 }
 
-fn match_at(position: usize, compares: u64) -> Result<Next, Refusal> {
-    let cursor = Cursor { position: position as u64 + 1, compares, exhausted: false };
+/// In a text of n elements.
+fn match_at(position: usize, compares: u64, n: usize) -> Result<Next, Refusal> {
+    let cursor = Cursor { position: position as u64 + 1, compares, exhausted: false, stop: n as u64 };
     Ok(Next::Match { position, cursor })
 }
 
-fn absent_from(position: usize, compares: u64) -> Result<Next, Refusal> {
-    Ok(Next::Absent { cursor: Cursor { position: position as u64, compares, exhausted: true } })
+fn absent_from(position: usize, compares: u64, n: usize) -> Result<Next, Refusal> {
+    Ok(Next::Absent { cursor: Cursor { position: position as u64, compares, exhausted: true, stop: n as u64 } })
 }
 
 /// Every n and m, with few letters: n = 0, m = 0, m = n, m > n, matches that overlap.
@@ -145,11 +146,11 @@ fn compares_up_to_the_piece_that_differs<E: Letter>() {
     let b = E::BLOCK;
     for m in sizes::<E>() {
         let needle: Vec<E> = text(&mut random, ANY, m);
-        let whole = check_call(real, Cursor::fresh(), &needle, &needle);
-        assert_eq!(whole, match_at(0, m.div_ceil(b) as u64));
+        let whole = check_call(real, fresh(&needle), &needle, &needle);
+        assert_eq!(whole, match_at(0, m.div_ceil(b) as u64, m));
         for at in b..m {
             let text = changed(&needle, at, 1);
-            assert_eq!(check_call(real, Cursor::fresh(), &text, &needle), absent_from(0, 1 + (at / b) as u64));
+            assert_eq!(check_call(real, fresh(&text), &text, &needle), absent_from(0, 1 + (at / b) as u64, m));
         }
     }
 }
@@ -198,9 +199,8 @@ fn some_cursors(random: &mut Random, n: u64) -> Vec<Cursor> {
     let positions = [0, 1, n / 2, n, n + 1, n + 2, random.draw() % (n + 2), random.draw(), u64::MAX];
     let compares = [0, most - 1, most, most + 1, random.draw() % (2 * most), random.draw(), u64::MAX];
     let pairs = positions.into_iter().flat_map(|position| compares.map(|compares| (position, compares)));
-    pairs
-        .flat_map(|(position, compares)| [false, true].map(|exhausted| Cursor { position, compares, exhausted }))
-        .collect()
+    let with = |(position, compares), exhausted| Cursor { position, compares, exhausted, stop: n };
+    pairs.flat_map(|pair| [false, true].map(|exhausted| with(pair, exhausted))).collect()
 }
 
 /// A call, and the calls after it up to absent or a refusal.
@@ -229,14 +229,14 @@ fn positions_about_the_texts_end<E: Letter>() {
     let real = silicon_available("positions_about_the_texts_end");
     for n in 0..=2 * E::BLOCK + 1 {
         let text: Vec<E> = one_letter(n);
-        let at = |position: usize| Cursor { position: position as u64, compares: 7, exhausted: false };
-        assert_eq!(check_call(real, at(n), &text, &[]), match_at(n, 7));
+        let at = |position: usize| Cursor { position: position as u64, compares: 7, ..fresh(&text) };
+        assert_eq!(check_call(real, at(n), &text, &[]), match_at(n, 7, n));
         if n > 0 {
-            assert_eq!(check_call(real, at(n), &text, &text[..1]), absent_from(n, 7));
-            assert_eq!(check_call(real, at(n - 1), &text, &text[..1]), match_at(n - 1, 8));
+            assert_eq!(check_call(real, at(n), &text, &text[..1]), absent_from(n, 7, n));
+            assert_eq!(check_call(real, at(n - 1), &text, &text[..1]), match_at(n - 1, 8, n));
         }
         for needle in [&[][..], &[E::cut(0x5a5a)], &[E::cut(0)]] {
-            assert_eq!(check_call(real, at(n + 1), &text, needle), absent_from(n + 1, 7));
+            assert_eq!(check_call(real, at(n + 1), &text, needle), absent_from(n + 1, 7, n));
             assert_eq!(check_call(real, at(n + 2), &text, needle), Err(Refusal::Position));
         }
     }
@@ -248,11 +248,11 @@ fn compares_that_grow_past_the_most<E: Letter>() {
     let real = silicon_available("compares_that_grow_past_the_most");
     let text: Vec<E> = one_letter(4);
     let call = |position, compares| {
-        let cursor = Cursor { position, compares, exhausted: false };
+        let cursor = Cursor { position, compares, ..fresh(&text) };
         check_call(real, cursor, &text, &text[..2])
     };
-    assert_eq!(call(0, MOST_COMPARES - 1), match_at(0, MOST_COMPARES));
-    assert_eq!(call(1, MOST_COMPARES), match_at(1, MOST_COMPARES + 1));
+    assert_eq!(call(0, MOST_COMPARES - 1), match_at(0, MOST_COMPARES, 4));
+    assert_eq!(call(1, MOST_COMPARES), match_at(1, MOST_COMPARES + 1, 4));
     assert_eq!(call(2, MOST_COMPARES + 1), Err(Refusal::Compares));
 }
 
@@ -262,7 +262,8 @@ fn the_longest_text_from_its_end<E: Letter>() {
     let mut random = Random::fixed("the_longest_text_from_its_end");
     let real = silicon_available("the_longest_text_from_its_end");
     let mut text: Vec<E> = text(&mut random, ENDS, LONGEST_TEXT);
-    let back = |back: usize, compares| Cursor { position: (LONGEST_TEXT - back) as u64, compares, exhausted: false };
+    let whole = fresh(&text);
+    let back = |back: usize, compares| Cursor { position: (LONGEST_TEXT - back) as u64, compares, ..whole };
     for m in [0, 1, 3, E::BLOCK, E::BLOCK + 1, LONGEST_NEEDLE] {
         let needle: Vec<E> = common::text(&mut random, ANY, m);
         put(&mut text, LONGEST_TEXT - m, &needle);
@@ -271,7 +272,7 @@ fn the_longest_text_from_its_end<E: Letter>() {
             check_calls_from(real, back(far, 0), &text, &needle);
         }
         let last = check_call(real, back(m, 0), &text, &needle);
-        assert_eq!(last, match_at(LONGEST_TEXT - m, m.div_ceil(E::BLOCK) as u64));
+        assert_eq!(last, match_at(LONGEST_TEXT - m, m.div_ceil(E::BLOCK) as u64, LONGEST_TEXT));
     }
 }
 
@@ -279,8 +280,8 @@ fn the_longest_text_from_its_end<E: Letter>() {
 fn the_limits_and_one_more<E: Letter>() {
     let real = silicon_available("the_limits_and_one_more");
     let text: Vec<E> = one_letter(LONGEST_TEXT + 1);
-    let call = |n: usize, m: usize| check_call(real, Cursor::fresh(), &text[..n], &text[..m]);
-    assert_eq!(call(LONGEST_TEXT, 1), match_at(0, 1));
+    let call = |n: usize, m: usize| check_call(real, fresh(&text[..n]), &text[..n], &text[..m]);
+    assert_eq!(call(LONGEST_TEXT, 1), match_at(0, 1, LONGEST_TEXT));
     assert_eq!(call(LONGEST_TEXT + 1, 1), Err(Refusal::Text));
     assert_eq!(call(LONGEST_TEXT + 1, 0), Err(Refusal::Text));
     for n in [0, 1, LONGEST_NEEDLE, LONGEST_NEEDLE + 1, LONGEST_TEXT] {
@@ -289,19 +290,12 @@ fn the_limits_and_one_more<E: Letter>() {
     }
 }
 
-/// Every set of conditions, each one past its limit: the lowest number is given.
+/// Every set of conditions, each one past its limit: the first in the order of the tests is given.
 fn several_refusals_at_once<E: Letter>() {
     let real = silicon_available("several_refusals_at_once");
     let text: Vec<E> = one_letter(LONGEST_TEXT + 1);
-    let numbers = [Refusal::Text, Refusal::Needle, Refusal::Exhausted, Refusal::Position, Refusal::Compares];
-    for conditions in 1..32usize {
-        let holds = |condition: usize| conditions >> condition & 1;
-        let n = if holds(0) == 1 { LONGEST_TEXT + 1 } else { 20 };
-        let m = LONGEST_NEEDLE * holds(1) + 1;
-        let position = (n + 2) as u64 * holds(3) as u64;
-        let compares = (MOST_COMPARES + 1) * holds(4) as u64;
-        let cursor = Cursor { position, compares, exhausted: holds(2) == 1 };
-        let lowest = numbers[conditions.trailing_zeros() as usize];
-        assert_eq!(check_call(real, cursor, &text[..n], &text[..m]), Err(lowest));
+    for conditions in 1..64usize {
+        let (n, m, cursor, first) = common::search::refused_for(conditions);
+        assert_eq!(check_call(real, cursor, &text[..n], &text[..m]), Err(first), "conditions {conditions:06b}");
     }
 }

@@ -1,6 +1,7 @@
 //! What the tests share: a generator, texts to draw, and the definitions in plain Rust.
 #![allow(dead_code, unused_macros, unused_imports)]
 
+pub mod fills;
 pub mod search;
 pub mod texts;
 
@@ -190,7 +191,17 @@ pub fn positions<E: Eq>(text: &[E], needle: &[E]) -> Vec<usize> {
     (0..=text.len()).filter(|&position| stands(text, needle, position)).collect()
 }
 
-/// The lowest number that applies to a call of the search.
+/// The cursor of a first call over the whole text.
+pub fn fresh<E>(text: &[E]) -> Cursor {
+    Cursor::fresh(text.len() as u64)
+}
+
+/// The text's first `stop` elements: all that an accepted search with this cursor looks at.
+pub fn up_to_stop<E>(cursor: Cursor, text: &[E]) -> &[E] {
+    &text[..cursor.stop as usize]
+}
+
+/// The number that applies to a call of the search, the first in the order of the tests.
 pub fn search_refusal(n: usize, m: usize, cursor: Cursor) -> Option<Refusal> {
     if n > LONGEST_TEXT {
         Some(Refusal::Text)
@@ -198,7 +209,9 @@ pub fn search_refusal(n: usize, m: usize, cursor: Cursor) -> Option<Refusal> {
         Some(Refusal::Needle)
     } else if cursor.exhausted {
         Some(Refusal::Exhausted)
-    } else if cursor.position > n as u64 + 1 {
+    } else if cursor.stop > n as u64 {
+        Some(Refusal::Stop)
+    } else if cursor.position > cursor.stop + 1 {
         Some(Refusal::Position)
     } else if cursor.compares > MOST_COMPARES {
         Some(Refusal::Compares)

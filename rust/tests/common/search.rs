@@ -1,9 +1,9 @@
 //! Texts and needles to search; a call of the search and a list of calls, held to the same walk on
 //! the processor's instructions and to brute force.
 
-use hirtxonda::{matches, Cursor, Next, Refusal};
+use hirtxonda::{matches, matches_until, Cursor, Next, Refusal, LONGEST_NEEDLE, LONGEST_TEXT, MOST_COMPARES};
 
-use super::{positions, search_refusal, stands, walk_compares, Letter, Random};
+use super::{positions, search_refusal, stands, up_to_stop, walk_compares, Letter, Random};
 
 /// A needle of m elements: drawn alone, or a part of the text, perhaps with one bit of one element
 /// changed.
@@ -48,11 +48,12 @@ pub fn expected<E: Letter>(cursor: Cursor, text: &[E], needle: &[E]) -> Result<N
     if let Some(refusal) = search_refusal(text.len(), needle.len(), cursor) {
         return Err(refusal);
     }
+    let text = up_to_stop(cursor, text);
     let from = cursor.position as usize;
     let compares = cursor.compares + walk_compares(text, needle, from);
     Ok(match (from..=text.len()).find(|&position| stands(text, needle, position)) {
         Some(position) => {
-            Next::Match { position, cursor: Cursor { position: position as u64 + 1, compares, exhausted: false } }
+            Next::Match { position, cursor: Cursor { position: position as u64 + 1, compares, ..cursor } }
         }
         None => Next::Absent { cursor: Cursor { compares, exhausted: true, ..cursor } },
     })
@@ -79,7 +80,28 @@ pub fn check_call<E: Letter>(real: bool, cursor: Cursor, text: &[E], needle: &[E
 
 /// A whole list of calls from a fresh cursor, and the iterators over the same text and needle.
 pub fn check_list<E: Letter>(real: bool, text: &[E], needle: &[E]) {
-    let mut cursor = Cursor::fresh();
+    let (found, compares) = calls_until(real, text, needle, text.len());
+    check_iterator(matches(text, needle), &found, compares);
+    #[cfg(target_arch = "x86_64")]
+    if real {
+        check_iterator(hirtxonda::silicon::matches(text, needle), &found, compares);
+    }
+}
+
+/// The same up to a stop. Gives the positions.
+pub fn check_list_until<E: Letter>(real: bool, text: &[E], needle: &[E], stop: usize) -> Vec<usize> {
+    let (found, compares) = calls_until(real, text, needle, stop);
+    check_iterator(matches_until(text, needle, stop), &found, compares);
+    #[cfg(target_arch = "x86_64")]
+    if real {
+        check_iterator(hirtxonda::silicon::matches_until(text, needle, stop), &found, compares);
+    }
+    found
+}
+
+/// A list of calls from a fresh cursor with this stop: the positions, and the compares in all.
+fn calls_until<E: Letter>(real: bool, text: &[E], needle: &[E], stop: usize) -> (Vec<usize>, u64) {
+    let mut cursor = Cursor::fresh(stop as u64);
     let mut found = Vec::new();
     while let Next::Match { position, cursor: following } = check_call(real, cursor, text, needle).expect("accepted") {
         found.push(position);
@@ -87,13 +109,10 @@ pub fn check_list<E: Letter>(real: bool, text: &[E], needle: &[E]) {
     }
     let Ok(Next::Absent { cursor }) = cursor.next(text, needle) else { panic!("a list ends with absent") };
     assert_eq!(check_call(real, cursor, text, needle), Err(Refusal::Exhausted));
-    assert_eq!(found, positions(text, needle));
-    assert!(cursor.compares <= most_compares(text, needle), "{} compares", cursor.compares);
-    check_iterator(matches(text, needle), &found, cursor.compares);
-    #[cfg(target_arch = "x86_64")]
-    if real {
-        check_iterator(hirtxonda::silicon::matches(text, needle), &found, cursor.compares);
-    }
+    let front = &text[..stop];
+    assert_eq!(found, positions(front, needle));
+    assert!(cursor.compares <= most_compares(front, needle), "{} compares", cursor.compares);
+    (found, cursor.compares)
 }
 
 /// Document 01's bound of a list's compares.
@@ -107,4 +126,23 @@ fn check_iterator<E: Letter>(matches: Result<hirtxonda::Matches<'_, E>, Refusal>
     assert!(matches.by_ref().eq(found.iter().copied()));
     assert_eq!(matches.next(), None);
     assert_eq!(matches.compares(), compares);
+}
+
+/// A call that is refused for each condition whose bit is set, in the order of the tests: 2, 3, 21,
+/// 31, 22, 23. Gives the lengths of text and needle, the cursor, and the first of the numbers. A
+/// position is refused where the text's length would accept it, if the stop allows that.
+pub fn refused_for(conditions: usize) -> (usize, usize, Cursor, Refusal) {
+    let order =
+        [Refusal::Text, Refusal::Needle, Refusal::Exhausted, Refusal::Stop, Refusal::Position, Refusal::Compares];
+    let holds = |refusal| order.iter().position(|&each| each == refusal).is_some_and(|bit| conditions >> bit & 1 == 1);
+    let n = if holds(Refusal::Text) { LONGEST_TEXT + 1 } else { 20 };
+    let m = if holds(Refusal::Needle) { LONGEST_NEEDLE + 1 } else { 1 };
+    let stop = if holds(Refusal::Stop) { n + 1 } else { n / 2 } as u64;
+    let cursor = Cursor {
+        position: if holds(Refusal::Position) { stop + 2 } else { 0 },
+        compares: if holds(Refusal::Compares) { MOST_COMPARES + 1 } else { 0 },
+        exhausted: holds(Refusal::Exhausted),
+        stop,
+    };
+    (n, m, cursor, order[conditions.trailing_zeros() as usize])
 }
