@@ -5,7 +5,8 @@
  * guard pages, mostly right before the one or right behind the other, so that a read or write of
  * one byte outside traps. What is expected of a call (refusal, what is written, what stays) is
  * written here from the header's rules alone, but for the compares of a search, which are those of
- * the walk in docs/SCOPE.md.
+ * the walk in docs/SCOPE.md. Of a text that is searched up to a stop, often only the front up to
+ * there is left.
  *
  *   faults [--calls N] [--seed N]   the run: a line of figures, status 0 where nothing was wrong
  *   faults --seed N --case I        one case again, as a failed run names it
@@ -282,8 +283,9 @@ static void settle(void)
 
 /* ---- figures ---- */
 
-/* How many calls returned each number, but for fills that it stopped, and how many of those. */
-static uint64_t given[HX_FULL + 1], stopped;
+/* How many calls returned each number, but for fills that it stopped, and how many of those; and
+ * how many searches were accepted of whose text nothing was left past the stop. */
+static uint64_t given[HX_FULL + 1], stopped, without_rest;
 
 static void expect(uint32_t result, uint32_t expected)
 {
@@ -613,6 +615,14 @@ static void try_19(void) { try_loop_call("hx_pcmpestri_19", hx_pcmpestri_19, 0x1
 
 #define MOST_COMPARES UINT64_C(1099511627776)
 
+/* What a search with this stop is over: the text's first elements, of which there are as many. */
+static text up_to_stop(const text *t, uint64_t stop)
+{
+    text front = *t;
+    front.length = stop;
+    return front;
+}
+
 /* The least position from `from` on where the needle stands, or UINT64_MAX. */
 static uint64_t stands_from(const text *t, const text *needle, uint64_t from)
 {
@@ -667,21 +677,38 @@ static uint64_t walk_compares(const text *t, const text *needle, uint64_t p)
     return compares;
 }
 
-static uint64_t draw_near(uint64_t n)
+static uint64_t at_most(uint64_t n, uint64_t limit) { return n < limit ? n : limit; }
+
+/* A position, near the stop or anywhere. */
+static uint64_t draw_near(uint64_t stop)
 {
     switch (below(8)) {
-    case 0: return n;
-    case 1: return n + 1;
-    case 2: return n + 2;
+    case 0: return stop;
+    case 1: return stop + 1;
+    case 2: return stop + 2;
     case 3: return one_in(2) ? draw() : any_number();
     case 4: return one_in(2) ? UINT64_MAX - below(3) : (UINT64_C(1) << 63) - below(2);
-    default: return below((n < HX_LONGEST_TEXT ? n : HX_LONGEST_TEXT) + 2);
+    default: return below(at_most(stop, HX_LONGEST_TEXT) + 2);
+    }
+}
+
+/* A stop, mostly of at most n. */
+static uint64_t draw_stop(uint64_t n)
+{
+    if (!one_in(8))
+        return one_in(4) ? n : one_in(16) ? 0 : below(at_most(n, HX_LONGEST_TEXT) + 1);
+    switch (below(4)) {
+    case 0: return n + 1;
+    case 1: return n + 2;
+    case 2: return one_in(2) ? draw() : any_number();
+    default: return one_in(2) ? UINT64_MAX - below(3) : (UINT64_C(1) << 63) - below(2);
     }
 }
 
 static void draw_cursor(hx_cursor *cursor, uint64_t n)
 {
-    cursor->position = one_in(4) ? 0 : draw_near(n);
+    cursor->stop = draw_stop(n);
+    cursor->position = one_in(4) ? 0 : draw_near(cursor->stop);
     switch (below(8)) {
     case 0:
     case 1: cursor->compares = MOST_COMPARES - 1 + below(3); break;
@@ -700,9 +727,20 @@ static uint32_t next_refusal(const hx_cursor *cursor, const text *t, const text 
         return HX_NEEDLE_REFUSED;
     if (cursor->exhausted != 0)
         return HX_EXHAUSTED_REFUSED;
-    if (cursor->position > t->length + 1)
+    if (cursor->stop > t->length)
+        return HX_STOP_REFUSED;
+    if (cursor->position > cursor->stop + 1)
         return HX_POSITION_REFUSED;
     return cursor->compares > MOST_COMPARES ? HX_COMPARES_REFUSED : 0;
+}
+
+static void count_without_rest(const text *t) { without_rest += t->p.bytes < t->length * t->width; }
+
+static void tell_cursor(const hx_cursor *cursor)
+{
+    argument_count = 2; /* after the lengths of text and needle */
+    arg("position", cursor->position), arg("compares", cursor->compares);
+    arg("exhausted", cursor->exhausted), arg("stop", cursor->stop);
 }
 
 /* One call of next match from the cursor as it stands, and what it must leave. */
@@ -712,15 +750,15 @@ static uint32_t next_call(const text *t, const text *needle, place *c, place *at
     uint64_t *position = (uint64_t *)at->at, found = UINT64_MAX, compares;
     uint32_t result, expected = next_refusal(&old, t, needle);
     function = t->width == 1 ? "hx_next_in_bytes" : "hx_next_in_words";
-    argument_count = 2;
-    arg("position", old.position), arg("compares", old.compares), arg("exhausted", old.exhausted);
+    tell_cursor(&old);
     if (t->width == 1)
         CALL(hx_next_in_bytes(cursor, t->p.at, t->length, needle->p.at, needle->length, position));
     else
         CALL(hx_next_in_words(cursor, (const uint16_t *)t->p.at, t->length, (const uint16_t *)needle->p.at,
                               needle->length, position));
+    text front = up_to_stop(t, old.stop);
     if (expected == 0) {
-        found = stands_from(t, needle, old.position);
+        found = stands_from(&front, needle, old.position);
         expected = found == UINT64_MAX ? HX_ABSENT : HX_MATCH;
     }
     expect(result, expected);
@@ -728,7 +766,8 @@ static uint32_t next_call(const text *t, const text *needle, place *c, place *at
         settle();
         return result;
     }
-    compares = old.compares + walk_compares(t, needle, old.position);
+    count_without_rest(t);
+    compares = old.compares + walk_compares(&front, needle, old.position);
     if (cursor->compares != compares)
         fail("compares %" PRIu64 " where %" PRIu64 " are expected", cursor->compares, compares);
     if (result == HX_MATCH && (*position != found || cursor->position != found + 1 || cursor->exhausted != 0))
@@ -736,6 +775,8 @@ static uint32_t next_call(const text *t, const text *needle, place *c, place *at
              cursor->position, cursor->exhausted, found);
     if (result == HX_ABSENT && (cursor->position != old.position || cursor->exhausted != 1))
         fail("absent, and cursor %" PRIu64 " %" PRIu64, cursor->position, cursor->exhausted);
+    if (cursor->stop != old.stop)
+        fail("the cursor's stop is %" PRIu64 " after the call", cursor->stop);
     written(c, sizeof *cursor);
     if (result == HX_MATCH)
         written(at, 8);
@@ -748,10 +789,11 @@ static uint32_t plain_fill(hx_cursor *cursor, const text *t, const text *needle,
                            size_t *count)
 {
     uint32_t number = next_refusal(cursor, t, needle);
+    text front = up_to_stop(t, cursor->stop);
     *count = 0;
     while (number == 0 && *count < length) {
-        uint64_t p = stands_from(t, needle, cursor->position);
-        cursor->compares += walk_compares(t, needle, cursor->position);
+        uint64_t p = stands_from(&front, needle, cursor->position);
+        cursor->compares += walk_compares(&front, needle, cursor->position);
         if (p == UINT64_MAX) {
             cursor->exhausted = 1;
             return HX_ABSENT;
@@ -774,8 +816,7 @@ static uint32_t fill_call(const text *t, const text *needle, place *c, place *li
     size_t length = list->bytes / 8, *count = (size_t *)told->at, wanted;
     uint32_t result;
     function = t->width == 1 ? "hx_fill_in_bytes" : "hx_fill_in_words";
-    argument_count = 2;
-    arg("position", after.position), arg("compares", after.compares), arg("exhausted", after.exhausted);
+    tell_cursor(&after);
     arg("positions_length", length);
     if (t->width == 1)
         CALL(hx_fill_in_bytes(cursor, t->p.at, t->length, needle->p.at, needle->length, positions, length, count));
@@ -788,15 +829,17 @@ static uint32_t fill_call(const text *t, const text *needle, place *c, place *li
         stopped++;
     }
     if (result >= HX_ABSENT || wanted != 0) {
+        count_without_rest(t);
         if (*count != wanted)
             fail("count %zu where %zu is expected", *count, wanted);
         for (size_t i = 0; i < wanted; i++)
             if (positions[i] != found[i])
                 fail("position %zu is %" PRIu64 "; the match is at %" PRIu64, i, positions[i], found[i]);
         if (memcmp(cursor, &after, sizeof after) != 0)
-            fail("cursor %" PRIu64 " %" PRIu64 " %" PRIu64 " where %" PRIu64 " %" PRIu64 " %" PRIu64 " is expected",
-                 cursor->position, cursor->compares, cursor->exhausted, after.position, after.compares,
-                 after.exhausted);
+            fail("cursor %" PRIu64 " %" PRIu64 " %" PRIu64 " %" PRIu64 " where %" PRIu64 " %" PRIu64 " %" PRIu64
+                 " %" PRIu64 " is expected",
+                 cursor->position, cursor->compares, cursor->exhausted, cursor->stop, after.position, after.compares,
+                 after.exhausted, after.stop);
         written(c, sizeof after);
         written(list, 8 * wanted);
         written(told, sizeof *count);
@@ -823,6 +866,24 @@ static void draw_search(text *t, text *needle, place *c, place *at, unsigned wid
     arg("text_length", t->length), arg("needle_length", needle->length);
 }
 
+/* Every other time, where the stop is before the text's end, all of the text from the stop on is
+ * taken away: the front that is left ends at the back guard, and the length that is handed over
+ * stays that of the whole. The header lets no caller go so far. It is done to see that nothing past
+ * the stop is read: such a read traps. A call that is refused reads nothing at all. A text in which
+ * the needle lies is left as it is. */
+static void take_rest_away(text *t, const text *needle, const place *c)
+{
+    uint64_t stop = ((const hx_cursor *)c->at)->stop;
+    if (!is_true(t) || stop >= t->length || needle->p.in == t->p.in || one_in(2))
+        return;
+    size_t bytes = stop * t->width;
+    uint8_t *at = t->p.in->low + t->p.in->size - bytes;
+    memmove(at, t->p.at, bytes);
+    t->p.at = at;
+    t->p.bytes = bytes;
+    chosen(&t->p);
+}
+
 /* A list of positions, with any bits in it before the call. */
 static void draw_list(place *list, const text *t)
 {
@@ -832,7 +893,7 @@ static void draw_list(place *list, const text *t)
     case 1: length = 1; break;
     case 2: length = 2 + below(3); break;
     case 3: length = below(one_in(16) ? LONGEST_FILL + 1 : 200); break;
-    case 4: length = below((t->length < 100 ? t->length : 100) + 3); break;
+    case 4: length = below(at_most(t->length, 100) + 3); break;
     default: length = below(20);
     }
     put(list, E, 8 * length, 8, true);
@@ -851,6 +912,7 @@ static void try_next(unsigned width)
     if (!one_in(16)) /* else any bits */
         draw_cursor((hx_cursor *)c.at, t.length);
     chosen(&c);
+    take_rest_away(&t, &needle, &c);
     next_call(&t, &needle, &c, &at);
 }
 
@@ -866,24 +928,25 @@ static void try_fill(unsigned width)
     if (one_in(2)) /* so that more are accepted */
         cursor->position = cursor->exhausted = 0;
     chosen(&c);
+    take_rest_away(&t, &needle, &c);
     fill_call(&t, &needle, &c, &list, &count);
 }
 
-static void check_fresh(place *c)
+static void check_fresh(place *c, uint64_t stop)
 {
-    static const hx_cursor zeros;
-    hx_cursor *cursor = (hx_cursor *)c->at;
+    hx_cursor *cursor = (hx_cursor *)c->at, fresh = {0, 0, 0, stop};
     bool kept = c->is_read;
     function = "hx_cursor_fresh";
+    arg("stop", stop);
     c->is_read = false;
     before_call();
-    hx_cursor_fresh(cursor);
+    hx_cursor_fresh(cursor, stop);
     after_call();
     c->is_read = kept;
     given[0]++;
-    if (memcmp(cursor, &zeros, sizeof zeros) != 0)
-        fail("a fresh cursor that is not 0, 0, 0");
-    written(c, sizeof zeros);
+    if (memcmp(cursor, &fresh, sizeof fresh) != 0)
+        fail("a fresh cursor that is not 0, 0, 0 and the stop");
+    written(c, sizeof fresh);
     settle();
 }
 
@@ -892,17 +955,18 @@ static void try_fresh(void)
     place c;
     begin("hx_cursor_fresh");
     out(&c, C, sizeof(hx_cursor), sizeof(uint64_t));
-    check_fresh(&c);
+    check_fresh(&c, draw_stop(any_number()));
 }
 
-/* A list of calls from a fresh cursor: every position, absent, then refused. It ends after forty
- * matches. */
+/* A list of calls from a fresh cursor: every position up to the stop, absent, then refused. It ends
+ * after forty matches. */
 static void try_list(unsigned width)
 {
     text t, needle;
     place c, at;
     draw_search(&t, &needle, &c, &at, width);
-    check_fresh(&c);
+    check_fresh(&c, draw_stop(t.length));
+    take_rest_away(&t, &needle, &c);
     uint32_t last = HX_MATCH;
     for (int i = 0; i < 40 && last == HX_MATCH; i++)
         last = next_call(&t, &needle, &c, &at);
@@ -918,10 +982,11 @@ static void try_mixture(unsigned width)
     place c, at, list;
     draw_search(&t, &needle, &c, &at, width);
     if (one_in(2))
-        check_fresh(&c);
+        check_fresh(&c, draw_stop(t.length));
     else
         draw_cursor((hx_cursor *)c.at, t.length);
     chosen(&c);
+    take_rest_away(&t, &needle, &c);
     uint32_t last = HX_FULL;
     size_t others = used_count;
     for (int i = 0; i < 20 && (last == HX_MATCH || last == HX_FULL); i++) {
@@ -1287,9 +1352,10 @@ static double percent(uint64_t part) { return 100.0 * (double)part / (double)cal
 static void tell_figures(double took)
 {
     printf("tests/faults: %" PRIu64 " calls in %.1f s, %.0f a second, none wrong (seed %" PRIu64 ", digest %016" PRIx64
-           ", " FORM "); accepted %.2f %%, absent %.2f %%, full %.2f %%, stopped %.2f %%, refused by",
+           ", " FORM "); accepted %.2f %%, absent %.2f %%, full %.2f %%, stopped %.2f %%, nothing past the stop "
+           "%.2f %%, refused by",
            calls, took, (double)calls / took, seed, digest, percent(given[0]), percent(given[HX_ABSENT]),
-           percent(given[HX_FULL]), percent(stopped));
+           percent(given[HX_FULL]), percent(stopped), percent(without_rest));
     for (uint32_t i = 1; i < HX_ABSENT; i++)
         if (given[i] != 0)
             printf(" %" PRIu32 ": %.2f %%", i, percent(given[i]));

@@ -76,12 +76,16 @@ WRAPPED(uint32_t, hx_pcmpestri_0d, (const uint8_t *operand1, size_t length1, con
     return __real_hx_pcmpestri_0d(operand1, length1, operand2, length2);
 }
 
-WRAPPED(void, hx_cursor_fresh, (hx_cursor * cursor))
+WRAPPED(void, hx_cursor_fresh, (hx_cursor * cursor, uint64_t stop))
 {
-    uint64_t old = cursor->exhausted;
-    __real_hx_cursor_fresh(cursor);
+    hx_cursor old = *cursor;
+    __real_hx_cursor_fresh(cursor, stop);
     if (wrong(10)) /* one number stays */
-        cursor->exhausted = old;
+        cursor->exhausted = old.exhausted;
+    if (wrong(60)) /* the stop stays */
+        cursor->stop = old.stop;
+    if (wrong(61) && stop > HX_LONGEST_TEXT) /* another stop, the longest text's */
+        cursor->stop = HX_LONGEST_TEXT;
 }
 
 WRAPPED(uint32_t, hx_next_in_bytes,
@@ -90,8 +94,22 @@ WRAPPED(uint32_t, hx_next_in_bytes,
 {
     if (wrong(11)) /* reads a text of any length */
         sink = text_length != 0 ? text[0] : 0;
-    uint64_t from = cursor->position;
+    uint64_t from = cursor->position, stop = cursor->stop;
+    if (wrong(62) && stop < text_length) /* the stop is not looked at */
+        cursor->stop = text_length;
+    if (wrong(63) && stop < text_length && from <= stop) /* a match may end one past the stop */
+        cursor->stop++;
     uint32_t r = __real_hx_next_in_bytes(cursor, text, text_length, needle, needle_length, position);
+    if (wrong(62) || wrong(63))
+        cursor->stop = stop;
+    if (wrong(64) && r == HX_POSITION_REFUSED && from <= text_length + 1) { /* 22 is tested by n */
+        cursor->exhausted = 1;
+        return HX_ABSENT;
+    }
+    if (wrong(65) && r == HX_STOP_REFUSED && from > text_length + 1) /* 31 after 22 */
+        return HX_POSITION_REFUSED;
+    if (wrong(66) && (r == HX_MATCH || r == HX_ABSENT) && stop < text_length) /* reads past the stop */
+        sink = text[stop];
     if (wrong(12) && r == HX_MATCH) /* reads behind the text */
         sink = text[text_length];
     if (wrong(13) && r == HX_ABSENT) /* tells a position with absent */
@@ -108,7 +126,28 @@ WRAPPED(uint32_t, hx_next_in_words,
         (hx_cursor * cursor, const uint16_t *text, size_t text_length, const uint16_t *needle, size_t needle_length,
          uint64_t *position))
 {
+    hx_cursor old = *cursor, whole = old;
+    uint64_t ahead;
+    whole.stop = text_length;
+    /* a stop of n is refused */
+    if (wrong(68) && text_length <= HX_LONGEST_TEXT && needle_length <= HX_LONGEST_NEEDLE && old.exhausted == 0 &&
+        old.stop == text_length)
+        return HX_STOP_REFUSED;
+    if (wrong(72) && old.stop == UINT64_MAX) /* the greatest number is no stop */
+        cursor->stop = text_length;
     uint32_t r = __real_hx_next_in_words(cursor, text, text_length, needle, needle_length, position);
+    if (wrong(72))
+        cursor->stop = old.stop;
+    if (wrong(67) && r == HX_EXHAUSTED_REFUSED && old.stop > text_length) /* 31 before 21 */
+        return HX_STOP_REFUSED;
+    if (wrong(69) && r == HX_MATCH) /* loses the stop after a match */
+        cursor->stop = text_length;
+    if (wrong(70) && r == HX_ABSENT) /* and after absent */
+        cursor->stop = text_length;
+    if (wrong(71) && r == HX_ABSENT) { /* blocks reach past the stop, and no match does */
+        __real_hx_next_in_words(&whole, text, text_length, needle, needle_length, &ahead);
+        cursor->compares = whole.compares;
+    }
     if (wrong(16) && r == HX_EXHAUSTED_REFUSED) /* a refused call writes 1 for what is not 0 */
         cursor->exhausted = 1;
     if (wrong(17) && r == HX_MATCH && needle_length != 0) /* reads before the needle */
@@ -131,8 +170,20 @@ WRAPPED(uint32_t, hx_fill_in_bytes,
         *count = 0;
         return HX_FULL;
     }
+    if (wrong(73) && old.stop < text_length) /* the stop is not looked at */
+        cursor->stop = text_length;
     uint32_t r = __real_hx_fill_in_bytes(cursor, text, text_length, needle, needle_length, positions, positions_length,
                                          count);
+    if (wrong(73))
+        cursor->stop = old.stop;
+    if (wrong(75) && r == HX_STOP_REFUSED && positions_length == 0) { /* 31 is not tested for an empty list */
+        *count = 0;
+        return HX_FULL;
+    }
+    if (wrong(77) && r == HX_STOP_REFUSED && old.compares > HX_MOST_COMPARES) /* 31 after 23 */
+        return HX_COMPARES_REFUSED;
+    if (wrong(76) && r >= HX_ABSENT && old.stop < text_length) /* reads past the stop */
+        sink = text[old.stop];
     int refused = r < HX_ABSENT && same(cursor, &old), stopped = r < HX_ABSENT && !refused;
     if (wrong(40) && r == HX_FULL) /* writes behind the list */
         positions[positions_length] = 0;
@@ -159,6 +210,8 @@ WRAPPED(uint32_t, hx_fill_in_bytes,
         cursor->position--;
     if (wrong(47) && r == HX_FULL && text_length != 0) /* reads behind the text */
         sink = text[text_length];
+    if (wrong(74) && r == HX_FULL) /* loses the stop where the list is full */
+        cursor->stop = text_length;
     return r;
 }
 
@@ -171,8 +224,18 @@ WRAPPED(uint32_t, hx_fill_in_words,
     /* tests the compares before the first match alone */
     if (wrong(48) && old.compares <= HX_MOST_COMPARES)
         cursor->compares = 0;
+    /* a match may end one past the stop */
+    if (wrong(78) && old.stop < text_length && old.position <= old.stop)
+        cursor->stop++;
     uint32_t r = __real_hx_fill_in_words(cursor, text, text_length, needle, needle_length, positions, positions_length,
                                          count);
+    if (wrong(78))
+        cursor->stop = old.stop;
+    if (wrong(80) && r == HX_POSITION_REFUSED && old.position <= text_length + 1) { /* 22 is tested by n */
+        *count = 0;
+        cursor->exhausted = positions_length != 0;
+        return positions_length != 0 ? HX_ABSENT : HX_FULL;
+    }
     if (wrong(48) && old.compares <= HX_MOST_COMPARES)
         cursor->compares += old.compares;
     int refused = r < HX_ABSENT && same(cursor, &old), stopped = r < HX_ABSENT && !refused;
@@ -202,6 +265,10 @@ WRAPPED(uint32_t, hx_fill_in_words,
         *count = old_count;
     if (wrong(59)) /* reads before the list */
         sink = (uint8_t)positions[-1];
+    if (wrong(79) && r == HX_ABSENT) /* loses the stop where there is no more match */
+        cursor->stop = text_length;
+    if (wrong(81) && r == HX_STOP_REFUSED) /* a refused call writes the stop that it would take */
+        cursor->stop = text_length;
     return r;
 }
 
