@@ -108,7 +108,8 @@ WRAPPED(uint32_t, hx_next_in_bytes,
     }
     if (wrong(65) && r == HX_STOP_REFUSED && from > text_length + 1) /* 31 after 22 */
         return HX_POSITION_REFUSED;
-    if (wrong(66) && (r == HX_MATCH || r == HX_ABSENT) && stop < text_length) /* reads past the stop */
+    /* reads past the stop */
+    if (wrong(66) && (r == HX_MATCH || r == HX_ABSENT) && stop < text_length)
         sink = text[stop];
     if (wrong(12) && r == HX_MATCH) /* reads behind the text */
         sink = text[text_length];
@@ -176,7 +177,8 @@ WRAPPED(uint32_t, hx_fill_in_bytes,
                                          count);
     if (wrong(73))
         cursor->stop = old.stop;
-    if (wrong(75) && r == HX_STOP_REFUSED && positions_length == 0) { /* 31 is not tested for an empty list */
+    /* 31 is not tested for an empty list */
+    if (wrong(75) && r == HX_STOP_REFUSED && positions_length == 0) {
         *count = 0;
         return HX_FULL;
     }
@@ -231,7 +233,8 @@ WRAPPED(uint32_t, hx_fill_in_words,
                                          count);
     if (wrong(78))
         cursor->stop = old.stop;
-    if (wrong(80) && r == HX_POSITION_REFUSED && old.position <= text_length + 1) { /* 22 is tested by n */
+    /* 22 is tested by n */
+    if (wrong(80) && r == HX_POSITION_REFUSED && old.position <= text_length + 1) {
         *count = 0;
         cursor->exhausted = positions_length != 0;
         return positions_length != 0 ? HX_ABSENT : HX_FULL;
