@@ -129,8 +129,8 @@ fn an_empty_list<E: Letter>() {
     }
 }
 
-/// Positions n and n + 1 are accepted, n + 2 is not. Absent leaves the position after the last
-/// match, or where the call began.
+/// With a stop of n, positions n and n + 1 are accepted, n + 2 is not. Absent leaves the position
+/// after the last match, or where the call began.
 fn positions_about_the_texts_end<E: Letter>() {
     let real = silicon_available("positions_about_the_texts_end");
     for n in 1..=2 * E::BLOCK + 1 {

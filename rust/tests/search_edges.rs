@@ -224,7 +224,7 @@ fn made_up_cursors<E: Letter>() {
     }
 }
 
-/// Positions n and n + 1 are accepted, n + 2 is not.
+/// With a stop of n, positions n and n + 1 are accepted, n + 2 is not.
 fn positions_about_the_texts_end<E: Letter>() {
     let real = silicon_available("positions_about_the_texts_end");
     for n in 0..=2 * E::BLOCK + 1 {

@@ -3,13 +3,15 @@
 //
 //   bench search ROUNDS      a line for each case: all contenders, in turn, in one process
 //   bench real ROUNDS        a line for each case: the real walk alone, for a run under an emulator
+//   bench stops ROUNDS       a line for each case: a stop at half the text beside one at its end
 //   bench growth ROUNDS      the proved search over texts of 64 KiB to 1 MiB elements
 //   bench unit ROUNDS        a line for each call and control: the model and the instruction
 //   bench real-unit ROUNDS   the instructions alone; controls that an emulator lacks are left out
 //   bench entries ROUNDS     one compare at 0Ch and at 18h, block after block
 //
 // Times are the least of the rounds, in nanoseconds. In `search` each contender's matches are
-// checked against the proved search's, and so are the compares of every walk.
+// checked against the proved search's, and so are the compares of every walk, in `stops` too. There
+// the lines have ratios.
 #define _GNU_SOURCE
 #include <immintrin.h>
 #include <setjmp.h>

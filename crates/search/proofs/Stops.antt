@@ -9,7 +9,7 @@ use mathlib.Core.Bool.{Bool, _&&_}
 use mathlib.Core.List.{List, [], _∷_}
 use lib.Dec.{eqb, leb}
 use lib.ListN.{length, drop, take}
-use lib.Seq.{length-take-le, take-take}
+use lib.Seq.{length-take-le, take-length, take-take}
 use native.Mathlib.Omega.{arith}
 use native.Mathlib.Nat.{not-suc-le-zero, le-of-suc-le-suc}
 use borrow.Author.Tests.{leb-true, le-leb}
@@ -22,11 +22,11 @@ use Rattle.search.specs.declared.Walked.{Walked}
 use Rattle.search.specs.Positions.{startsWith}
 use Rattle.search.specs.Walk.{Ended, matchAt, nowhere, walk}
 use Rattle.search.specs.Cursors.{accepted, answered, front, refusal, nextMatch}
-use Rattle.search.specs.Calls.{said, cursorOf}
+use Rattle.search.specs.Calls.{Said, said, cursorOf, saidBy}
 use Rattle.search.specs.Fills.{afterNext, answerOf, emptyList, Fill, fill, fillFrom, written}
 use Rattle.search.specs.Mixed.{Call, aNext, aFill, foundIn, givenBy, cursorBy, allGiven, cursorAfterAll}
 use Rattle.search.specs.Moves.{Walkable, Walks}
-use Rattle.search.specs.Stops.{AlikeBelow, EndsWithin, NothingPast, StopKept}
+use Rattle.search.specs.Stops.{AlikeBelow, EndsWithin, NothingPast, StopKept, WholeAtEnd}
 use Rattle.search.proofs.Refusals.{accepted-is, refused-alike}
 
 -- ---- where a needle stands
@@ -116,6 +116,12 @@ module _ (words : Bool) (text text' needle : List ℕ) (stop : ℕ) (alike : Ali
       by-answer (Absent d) e rest = refl
       by-answer (Refused r d) e rest = refl
 
+  said-alike : (k : ℕ) (c : Cursor) → c .stop ≡ stop → saidBy words text needle k c ≡ saidBy words text' needle k c
+  said-alike zero c at = refl
+  said-alike (suc k) c at =
+      let rest = said-alike k (cursorOf (nextMatch words text needle c)) (next-kept words text needle c ∙ at) in
+      ap (λ (l : List Said). said (nextMatch words text needle c) ∷ l) rest ∙ ap (λ (x : Next). said x ∷ saidBy words text' needle k (cursorOf x)) (next-alike c at)
+
   fill-alike : (k : ℕ) (c : Cursor) → c .stop ≡ stop → fill words text needle k c ≡ fill words text' needle k c
   unfolding fill
   fill-alike zero c at = ap (emptyList c) (refusal-alike c at)
@@ -138,9 +144,14 @@ pub nothing-past : NothingPast
 nothing-past words text text' needle c alike = record {
   next = next-alike words text text' needle (c .stop) alike c refl;
   fills = λ k. fill-alike words text text' needle (c .stop) alike k c refl;
+  says = λ k. said-alike words text text' needle (c .stop) alike k c refl;
   given = λ calls. calls-alike words text text' needle (c .stop) alike calls c refl .0;
   after = λ calls. calls-alike words text text' needle (c .stop) alike calls c refl .1;
 }
+
+pub whole-at-end : WholeAtEnd
+unfolding nextMatch
+whole-at-end words text needle c e = rw (e, take-length text)
 
 -- ---- the text cut at the stop, where a call is accepted
 

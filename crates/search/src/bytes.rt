@@ -58,10 +58,10 @@ impl Cursor {
         at.stepped(false, s.index as u64, at.compares + 1)
     }
 
-    // The walk from the cursor's position, on past each match until the list is full or a number
-    // stops it. `from` is the cursor of the match that is looked for, `at` how far its walk has
-    // got. The text is cut at the stop. The needle's first piece has l bytes; its operand is made
-    // once.
+    // The walk from the cursor's position over a text that is cut at its stop, on past each match
+    // until the list is full or the cursor after it is refused. `from` is the cursor of the match
+    // that is looked for, `at` how far its walk has got. The needle's first piece has l bytes; its
+    // operand is made once.
     fn walk_in_bytes(self, text: &[u8], needle: &[u8], l: usize, positions: &mut [u64]) -> Walked
         requires { ⌜ Walkable inBytes (now text) (now needle) l self (now positions) ⌝ }
         ensures { λ r. ⌜ Walks (nextMatch inBytes (now (text .entry)) (now (needle .entry))) self
