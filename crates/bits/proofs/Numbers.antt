@@ -8,7 +8,7 @@ use native.Mathlib.Omega.{arith}
 use lib.Dec.{eqb, ltb}
 use lib.ListN.{getD, replicate, getD-replicate}
 use mathlib.Core.List.{List}
-use lib.Pow.{pow-pos, pow-lt, shr-shr}
+use lib.Pow.{pow-pos, pow-lt, shr-shr, field, mod-mod-pow}
 use lib.Bits.{bitAnd, bitOr, bitXor, differ, and-step, or-step, xor-step}
 use lib.Count.{trailingZeros, leadingZeros, under, leading-unique}
 use borrow.Author.Tests.{eqb-true, eqb-false, lt-ltb, le-ltb}
@@ -122,6 +122,24 @@ number-bit n j p h =
     let q : j + suc (n - suc j) ≡ n = omega arith in
     subst (λ (m : ℕ). numberOf m p / 2 ^ j % 2 ≡ cond (p j) 1 0) q
     (rw (number-shift j (suc (n - suc j)) p, number-front (n - suc j) (λ i. p (j + i)), odd-of, add-zero j))
+
+-- bit j of a number's low n bits, and of the n bits from place q on
+cut-bit-by : (x d j : ℕ) → x % 2 ^ (d + 1 + j) / 2 ^ j % 2 ≡ x / 2 ^ j % 2
+cut-bit-by x d j = ap (λ (m : ℕ). m % 2) (field x (d + 1) j) ∙ mod-mod-pow (x / 2 ^ j) d 1
+
+pub cut-bit : (x n j : ℕ) → j < n → x % 2 ^ n / 2 ^ j % 2 ≡ x / 2 ^ j % 2
+cut-bit x n j h =
+    let q : n - suc j + 1 + j ≡ n = omega arith in
+    subst (λ (m : ℕ). x % 2 ^ m / 2 ^ j % 2 ≡ x / 2 ^ j % 2) q (cut-bit-by x (n - suc j) j)
+
+pub bit-from : (x q n j i : ℕ) → j < n → q + j ≡ i → x / 2 ^ q % 2 ^ n / 2 ^ j % 2 ≡ x / 2 ^ i % 2
+bit-from x q n j i h e =
+    cut-bit (x / 2 ^ q) n j h ∙ ap (λ (m : ℕ). m % 2) (shr-shr x q j ∙ ap (λ (m : ℕ). x / 2 ^ m) e)
+
+-- a bit as a number
+pub bit-set : (t : Bool) → eqb (cond t 1 0) 1 ≡ t
+bit-set true = refl
+bit-set false = refl
 
 no-bit : (t : Bool) → _≡_ {A = ℕ} (cond t 1 0) 0 → t ≡ false
 no-bit true e =

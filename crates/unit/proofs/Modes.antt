@@ -16,7 +16,7 @@ use borrow.Author.Tests.{eq-eqb, ne-eqb, lt-ltb, le-ltb}
 use Rattle.bits.specs.Bits.{allBelow, leastBelow, numberOf, tabulate}
 use Rattle.bits.proofs.Below.{and-over-or, or-true, and-true, and-false, any-more-below, all-cut, by-order, by-test, least-at, least-none, number-same}
 use Rattle.bits.proofs.Lists.{getD-tabulate, tabulate-same}
-use Rattle.bits.proofs.Numbers.{number-and, number-both, number-or, number-xor, number-cut, number-shift, number-bit, number-zero, number-bits, no-bits}
+use Rattle.bits.proofs.Numbers.{number-and, number-both, number-or, number-xor, number-cut, number-shift, number-bit, number-zero, number-bits, cut-bit, no-bits}
 use Rattle.unit.specs.declared.Aggregation.the-variants.{EqualEach, EqualOrdered}
 use Rattle.unit.specs.Compare.{override}
 use Rattle.unit.specs.Modes.{isIn, anyOf, between, inRange, rangesOf, eachOf, follows, orderedOf}
@@ -196,11 +196,7 @@ low-field b i l h e =
     subst (λ (t : ℕ). l % 2 ^ t ≡ 0 → l / 2 ^ i % 2 ^ (b - i) ≡ 0) n (λ z. sym (field l (b - i) i) ∙ ap (λ (x : ℕ). x / 2 ^ i) z ∙ zero-div (2 ^ i)) e
 
 low-bit : (b j l : ℕ) → j < b → l % 2 ^ b ≡ 0 → l / 2 ^ j % 2 ≡ 0
-low-bit b j l h e =
-    let n : b - j - 1 + 1 ≡ b - j = omega arith in
-    sym (subst (λ (t : ℕ). l / 2 ^ j % 2 ^ t % 2 ^ 1 ≡ l / 2 ^ j % 2 ^ 1) n (mod-mod-pow (l / 2 ^ j) (b - j - 1) 1))
-    ∙ ap (λ (x : ℕ). x % 2 ^ 1) (low-field b j l (omega arith) e)
-    ∙ zero-mod (2 ^ 1)
+low-bit b j l h e = sym (cut-bit l b j h) ∙ rw (e, zero-div (2 ^ j))
 
 -- so the b bits from i on are not set where they lie below b
 none-below : (b i l : ℕ) (p : ℕ → Bool) → i ≤ b → l / 2 ^ i % 2 ^ b ≡ numberOf b p → l % 2 ^ b ≡ 0 → (j : ℕ) → i + j < b → p j ≡ false

@@ -17,7 +17,7 @@ use borrow.Author.Tests.{eq-eqb, ne-eqb, lt-ltb, le-ltb}
 use Rattle.bits.specs.Bits.{anyBelow, leastBelow, numberOf, tabulate}
 use Rattle.bits.proofs.Below.{and-over-or, and-false, any-cut, any-same, number-same, number-none}
 use Rattle.bits.proofs.Lists.{length-tabulate, tabulate-same}
-use Rattle.bits.proofs.Numbers.{number-xor, number-front, odd-of, number-bit, least-read, greatest-read, every-bit}
+use Rattle.bits.proofs.Numbers.{number-xor, number-front, odd-of, number-bit, bit-set, least-read, greatest-read, every-bit}
 use Rattle.unit.specs.declared.Control.{Control}
 use Rattle.unit.specs.declared.Compared.{Compared}
 use Rattle.unit.specs.declared.IndexAnswer.{IndexAnswer}
@@ -153,11 +153,8 @@ not-not : (t : Bool) → not (not t) ≡ t
 not-not true = refl
 not-not false = refl
 
-bit-set : (t : Bool) → eqb (cond t 1 0) 1 ≡ t
-bit-set true = refl
-bit-set false = refl
-
-element-below : (w : Bool) (i : ℕ) → i < 16 → cond w (i / 2) i < count w
+-- the element that byte i of a mask belongs to
+pub element-below : (w : Bool) (i : ℕ) → i < 16 → cond w (i / 2) i < count w
 element-below true i h = omega arith
 element-below false i h = omega arith
 

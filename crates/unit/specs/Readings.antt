@@ -38,9 +38,13 @@ abbrev pub indexRead : Bool → ℕ → ℕ → ℕ
 indexRead high b n =
     cond high (cond (eqb n 0) b (31 - leadingZeros 32 n)) (cond (eqb n 0) b (trailingZeros 32 n))
 
+-- byte i of the byte/word mask: all ones where the bit of its element is set
+abbrev pub byteRead : Bool → ℕ → ℕ → ℕ
+byteRead words n i = cond (eqb (n / 2 ^ (cond words (i / 2) i) % 2) 1) 255 0
+
 -- the byte/word mask, and the mask that the output selection asks for
 abbrev pub elementRead : Bool → ℕ → List ℕ
-elementRead words n = tabulate 16 (λ i. cond (eqb (n / 2 ^ (cond words (i / 2) i) % 2) 1) 255 0)
+elementRead words n = tabulate 16 (byteRead words n)
 
 abbrev pub maskRead : Bool → Bool → ℕ → List ℕ
 maskRead high words n =
