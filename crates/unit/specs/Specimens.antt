@@ -1,7 +1,8 @@
 -- The worked examples U1 to U9 of document 01, with every value that it gives, in one list that one
--- computed check covers.
+-- computed check covers; and examples of the byte/word mask beside the bit mask (document 02,
+-- request 3).
 use Prim.Native.Nat.{ℕ, _+_, _*_}
-use mathlib.Core.Bool.{Bool, true, not, _&&_}
+use mathlib.Core.Bool.{Bool, true, false, not, _&&_}
 use mathlib.Core.List.{List, [], _∷_, _++_}
 use lib.Dec.{T, eqb}
 use lib.ListN.{replicate, getD, take}
@@ -11,7 +12,7 @@ use Rattle.unit.specs.Control.{controlOf}
 use Rattle.unit.specs.Operand.{count, explicitLength, wordsOf}
 use Rattle.unit.specs.Compare.{boolRes, intRes1, intRes2}
 use Rattle.unit.specs.Output.{indexOf, maskOf, bitMask, elementMask, flagsOf}
-use Rattle.unit.specs.Calls.{explicit, PCMPESTRI, PCMPESTRM}
+use Rattle.unit.specs.Calls.{explicit, PCMPESTRI, PCMPESTRM, PCMPISTRM}
 
 abbrev pub all : List Bool → Bool
 all [] = true
@@ -122,3 +123,60 @@ specimens = U1 ∷ U2 ∷ U3 ∷ U4 ∷ U5 ∷ U6 ∷ U7 ∷ U8 ∷ U9 ∷ []
 pub specimens-hold : T (all specimens)
 unfolding leastBelow greatestBelow tabulate numberOf specimens U1 U2 U3 U4 U5 U6 U7 U8 U9 firstResult result index CF ZF SF OF padded PCMPESTRI PCMPESTRM controlOf explicitLength wordsOf flagsOf indexOf maskOf bitMask elementMask intRes2 intRes1 boolRes
 specimens-hold = tt
+
+-- ---- masks, the narrow one and the wide one, by hand
+
+abbrev pub same : List ℕ → List ℕ → Bool
+same [] [] = true
+same [] (y ∷ ys) = false
+same (x ∷ xs) [] = false
+same (x ∷ xs) (y ∷ ys) = eqb x y && same xs ys
+
+-- the masks of an explicit call and of an implicit one
+unfoldable pub explicitMask : List ℕ → ℕ → List ℕ → ℕ → ℕ → List ℕ
+explicitMask x₁ l₁ x₂ l₂ c = PCMPESTRM (padded x₁) (pos l₁) (padded x₂) (pos l₂) c .mask
+
+unfoldable pub implicitMask : List ℕ → List ℕ → ℕ → List ℕ
+implicitMask x₁ x₂ c = PCMPISTRM (padded x₁) (padded x₂) c .mask
+
+-- CF of an explicit mask call, and its refusal
+unfoldable pub maskCF : List ℕ → ℕ → List ℕ → ℕ → ℕ → Bool
+maskCF x₁ l₁ x₂ l₂ c = PCMPESTRM (padded x₁) (pos l₁) (padded x₂) (pos l₂) c .flags .carry
+
+unfoldable pub maskRefusal : List ℕ → ℕ → List ℕ → ℕ → ℕ → ℕ
+maskRefusal x₁ l₁ x₂ l₂ c = PCMPESTRM (padded x₁) (pos l₁) (padded x₂) (pos l₂) c .refusal
+
+-- M1: `SMITH` and `SMYTH`, equal each, negated: byte 2 alone differs
+unfoldable pub M1 : Bool
+M1 =
+    same (explicitMask smith 5 smyth 5 0x18) (0x04 ∷ replicate 15 0)
+    && same (explicitMask smith 5 smyth 5 0x58) (0 ∷ 0 ∷ 255 ∷ replicate 13 0)
+    && maskCF smith 5 smyth 5 0x18
+    && maskCF smith 5 smyth 5 0x58
+
+-- M2: in words, two of each, not negated: `SM` and `IT` beside `SM` and `YT`
+unfoldable pub M2 : Bool
+M2 =
+    same (explicitMask smith 2 smyth 2 0x09) (0xFD ∷ replicate 15 0)
+    && same (explicitMask smith 2 smyth 2 0x49) (255 ∷ 255 ∷ 0 ∷ 0 ∷ replicate 12 255)
+
+-- M3: implicit, `B` in the range `A` to `Z`
+unfoldable pub M3 : Bool
+M3 =
+    same (implicitMask az a-B 0x04) (0x04 ∷ replicate 15 0)
+    && same (implicitMask az a-B 0x44) (0 ∷ 0 ∷ 255 ∷ replicate 13 0)
+
+-- M4: refused, with bit 6 or without
+unfoldable pub M4 : Bool
+M4 =
+    same (explicitMask smith 5 smyth 5 0x98) (replicate 16 0)
+    && same (explicitMask smith 5 smyth 5 0xD8) (replicate 16 0)
+    && eqb (maskRefusal smith 5 smyth 5 0x98) 1
+    && eqb (maskRefusal smith 5 smyth 5 0xD8) 1
+
+unfoldable pub masks : List Bool
+masks = M1 ∷ M2 ∷ M3 ∷ M4 ∷ []
+
+pub masks-hold : T (all masks)
+unfolding leastBelow tabulate numberOf masks M1 M2 M3 M4 explicitMask implicitMask maskCF maskRefusal padded PCMPESTRM PCMPISTRM controlOf explicitLength wordsOf flagsOf maskOf bitMask elementMask intRes2 intRes1 boolRes
+masks-hold = tt
