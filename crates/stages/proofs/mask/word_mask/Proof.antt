@@ -1,68 +1,97 @@
--- `stages::mask::word_mask` meets its contract. The invariant: the first i bytes of the mask are
--- filled, each from the bit of its element. Assumes nothing.
-use Prim.Native.Nat.{_≤_, _-_, _/_, _%_, _^_}
-use mathlib.Core.Path.{_≡_, refl}
-use mathlib.Core.Bool.{cond}
-use lib.Dec.{eqb}
-use lib.ListN.{length, take}
+-- `stages::mask::word_mask` meets its contract, byte by byte. Assumes nothing.
+use mathlib.Core.List.{[], _∷_}
 use Rattle.bits.specs.Bits.{tabulate}
-use Rattle.bits.proofs.Lists.{fill, filled}
 use borrow.Author.Needs.{needs}
-use native.Mathlib.Omega.{arith}
 use Rattle.stages.proofs.mask.word_mask.Statement.{statement}
 use Rattle.stages.proofs.mask.word_mask.Tie as tie
 
-abbrev Inv-loop : tie.InvT-loop
-Inv-loop bits mask₀ i₀ mask i = (i ≤ 16) × (length mask ≡ 16) × (take i mask ≡ tabulate i (λ n. cond (eqb (bits / 2 ^ (n / 2) % 2) 1) 255 0))
+word-mask-at-requires : tie.Need-word-mask-at-requires
+word-mask-at-requires c κs = search needs
 
-abbrev μ-loop : tie.MeasureT-loop
-μ-loop bits mask₀ i₀ mask i = 16 - i
+word-mask-at-requires-2 : tie.Need-word-mask-at-requires-2
+word-mask-at-requires-2 c κs = search needs
 
-loop-holds : tie.Need-loop-holds Inv-loop μ-loop
+word-mask-at-requires-3 : tie.Need-word-mask-at-requires-3
+word-mask-at-requires-3 c κs = search needs
+
+word-mask-at-requires-4 : tie.Need-word-mask-at-requires-4
+word-mask-at-requires-4 c κs = search needs
+
+word-mask-at-requires-5 : tie.Need-word-mask-at-requires-5
+word-mask-at-requires-5 c κs = search needs
+
+word-mask-at-requires-6 : tie.Need-word-mask-at-requires-6
+word-mask-at-requires-6 c κs = search needs
+
+word-mask-at-requires-7 : tie.Need-word-mask-at-requires-7
+word-mask-at-requires-7 c κs = search needs
+
+word-mask-at-requires-8 : tie.Need-word-mask-at-requires-8
+word-mask-at-requires-8 c κs = search needs
+
+word-mask-at-requires-9 : tie.Need-word-mask-at-requires-9
+word-mask-at-requires-9 c κs = search needs
+
+word-mask-at-requires-10 : tie.Need-word-mask-at-requires-10
+word-mask-at-requires-10 c κs = search needs
+
+word-mask-at-requires-11 : tie.Need-word-mask-at-requires-11
+word-mask-at-requires-11 c κs = search needs
+
+word-mask-at-requires-12 : tie.Need-word-mask-at-requires-12
+word-mask-at-requires-12 c κs = search needs
+
+word-mask-at-requires-13 : tie.Need-word-mask-at-requires-13
+word-mask-at-requires-13 c κs = search needs
+
+word-mask-at-requires-14 : tie.Need-word-mask-at-requires-14
+word-mask-at-requires-14 c κs = search needs
+
+word-mask-at-requires-15 : tie.Need-word-mask-at-requires-15
+word-mask-at-requires-15 c κs = search needs
+
+word-mask-at-requires-16 : tie.Need-word-mask-at-requires-16
+word-mask-at-requires-16 c κs = search needs
+
+returns : tie.Need-returns
 unfolding tabulate
-loop-holds c = (omega arith, search needs, refl)
-
-cast-filled : tie.Need-cast-filled Inv-loop μ-loop
-cast-filled c = search needs
-
-shr-filled : tie.Need-shr-filled Inv-loop μ-loop
-shr-filled c = search needs
-
-filled-requires : tie.Need-filled-requires Inv-loop μ-loop
-filled-requires c κs = search needs
-
-array-write-mask : tie.Need-array-write-mask Inv-loop μ-loop
-array-write-mask c = search needs
-
-add-i : tie.Need-add-i Inv-loop μ-loop
-add-i c = search needs
-
-loop-less : tie.Need-loop-less Inv-loop μ-loop
-loop-less c = search needs
-
-loop-again : tie.Need-loop-again Inv-loop μ-loop
-loop-again c =
-    let l = c .before .before in
-    (omega arith, search needs, fill (l .loop .mask) (l .loop .i) (λ n. cond (eqb (l .before .args .bits / 2 ^ (n / 2) % 2) 1) 255 0) (c .filled .result) (omega arith) (l .loop .inv .2) (c .filled .ensures))
-
-returns : tie.Need-returns Inv-loop μ-loop
 returns c =
-    let l = c .before in
-    let e : l .loop .i ≡ 16 = omega arith in
-    filled (l .loop .mask) 16 (λ n. cond (eqb (l .before .args .bits / 2 ^ (n / 2) % 2) 1) 255 0) (l .loop .inv .1) (rw e at (l .loop .inv .2))
+    let c15 = c .before in
+    let c14 = c15 .before in
+    let c13 = c14 .before in
+    let c12 = c13 .before in
+    let c11 = c12 .before in
+    let c10 = c11 .before in
+    let c9 = c10 .before in
+    let c8 = c9 .before in
+    let c7 = c8 .before in
+    let c6 = c7 .before in
+    let c5 = c6 .before in
+    let c4 = c5 .before in
+    let c3 = c4 .before in
+    let c2 = c3 .before in
+    let c1 = c2 .before in
+    λ t.
+    c1 .word-mask-at .ensures t ∷ c2 .word-mask-at2 .ensures t ∷ c3 .word-mask-at3 .ensures t ∷ c4 .word-mask-at4 .ensures t ∷ c5 .word-mask-at5 .ensures t ∷ c6 .word-mask-at6 .ensures t ∷ c7 .word-mask-at7 .ensures t ∷ c8 .word-mask-at8 .ensures t ∷ c9 .word-mask-at9 .ensures t ∷ c10 .word-mask-at10 .ensures t ∷ c11 .word-mask-at11 .ensures t ∷ c12 .word-mask-at12 .ensures t ∷ c13 .word-mask-at13 .ensures t ∷ c14 .word-mask-at14 .ensures t ∷ c15 .word-mask-at15 .ensures t ∷ c .word-mask-at16 .ensures t ∷ []
 
 pub word-mask-spec : {M : Type 1} → statement M
 word-mask-spec =
     tie.close
     (tie.spec
-    Inv-loop
-    μ-loop
-    loop-holds
-    cast-filled
-    shr-filled
-    filled-requires
-    array-write-mask
-    add-i
-    loop-less
-    loop-again
+    word-mask-at-requires
+    word-mask-at-requires-2
+    word-mask-at-requires-3
+    word-mask-at-requires-4
+    word-mask-at-requires-5
+    word-mask-at-requires-6
+    word-mask-at-requires-7
+    word-mask-at-requires-8
+    word-mask-at-requires-9
+    word-mask-at-requires-10
+    word-mask-at-requires-11
+    word-mask-at-requires-12
+    word-mask-at-requires-13
+    word-mask-at-requires-14
+    word-mask-at-requires-15
+    word-mask-at-requires-16
     returns)
