@@ -98,7 +98,8 @@ uint32_t hx_pcmpistri(const uint8_t operand1[16], const uint8_t operand2[16], ui
 
 /* PCMPESTRM has explicit lengths, PCMPISTRM implicit ones. They write mask and *flags. mask has the
  * bits of the result in its first two bytes, low byte first, and 0 in the others; with control bit
- * 6 it has elements, each with all bits set or none, as its bit of the result says.
+ * 6 it has elements, each with all bits set or none, as its bit of the result says. *flags is the
+ * same with bit 6 and without. docs/PERFORMANCE.md says how much stack they take.
  * They return 0, or HX_CONTROL_REFUSED. */
 uint32_t hx_pcmpestrm(const uint8_t operand1[16], int32_t length1, const uint8_t operand2[16],
                       int32_t length2, uint8_t control, uint8_t mask[16], uint32_t *flags);

@@ -1,12 +1,12 @@
 //! The proved unit against the processor's own instructions: all 128 controls, explicit and
-//! implicit lengths, index and mask, all six flags.
+//! implicit lengths, index and mask, all six flags; and each wide mask against its narrow one.
 #![cfg(target_arch = "x86_64")]
 
 mod common;
 
 use common::{say, silicon_available, text, Random, ALPHABETS};
 use hirtxonda::{pcmpestri, pcmpestri_0c, pcmpestri_0d, pcmpestri_18, pcmpestri_19, pcmpestrm, pcmpistri, pcmpistrm};
-use hirtxonda::{silicon, Flags, Refusal};
+use hirtxonda::{silicon, Flags, MaskAnswer, Refusal};
 
 /// Blocks that a test draws.
 const BLOCKS: usize = 1 << 20;
@@ -131,6 +131,86 @@ fn implicit_mask() {
         |b, control| pcmpistrm(&b.operand1, &b.operand2, control),
         |b, control| silicon::pcmpistrm(&b.operand1, &b.operand2, control),
     );
+}
+
+/// The mask of elements that a mask of bits stands for: element j is all ones where bit j is set.
+fn widened(bits: &[u8; 16], words: bool) -> [u8; 16] {
+    std::array::from_fn(|byte| {
+        let j = if words { byte / 2 } else { byte };
+        if bits[j / 8] >> (j % 8) & 1 == 1 {
+            255
+        } else {
+            0
+        }
+    })
+}
+
+/// Two mask calls alike but for bit 6 of the control (document 02, request 3): the wide mask is the
+/// narrow one widened, flags and refusals are equal. The processor's are held to the same.
+fn masks_widen(test: &str, call: impl Fn(&Block, u8) -> Result<MaskAnswer, Refusal>) {
+    let mut random = Random::for_test(test);
+    for number in 0..BLOCKS / 4 {
+        let block = block(&mut random);
+        for step in 0..CONTROLS / 2 {
+            let control = ((number * CONTROLS / 2 + step) % 64) as u8;
+            let (narrow, wide) = (call(&block, control).unwrap(), call(&block, control | 0x40).unwrap());
+            assert_eq!(wide.mask, widened(&narrow.mask, control & 1 == 1), "control {control:02x}h, {block}");
+            assert_eq!(wide.flags, narrow.flags, "control {control:02x}h, {block}");
+            if number % 1024 == 0 {
+                assert_eq!(call(&block, control | 0x80), Err(Refusal::Control));
+                assert_eq!(call(&block, control | 0xc0), Err(Refusal::Control));
+            }
+        }
+    }
+}
+
+#[test]
+fn explicit_masks_widen() {
+    masks_widen("explicit_masks_widen", |b, control| {
+        pcmpestrm(&b.operand1, b.length1, &b.operand2, b.length2, control)
+    });
+}
+
+#[test]
+fn implicit_masks_widen() {
+    masks_widen("implicit_masks_widen", |b, control| pcmpistrm(&b.operand1, &b.operand2, control));
+}
+
+#[test]
+fn masks_of_the_processor_widen() {
+    if silicon_available("masks_of_the_processor_widen") {
+        masks_widen("masks_of_the_processor_widen", |b, control| {
+            silicon::pcmpestrm(&b.operand1, b.length1, &b.operand2, b.length2, control)
+        });
+        masks_widen("masks_of_the_processor_widen, implicit", |b, control| {
+            silicon::pcmpistrm(&b.operand1, &b.operand2, control)
+        });
+    }
+}
+
+/// The worked masks M1 to M4 of docs/SCOPE.md, narrow and wide.
+#[test]
+fn worked_masks() {
+    fn operand(text: &[u8]) -> [u8; 16] {
+        let mut operand = [0; 16];
+        operand[..text.len()].copy_from_slice(text);
+        operand
+    }
+    let (smith, smyth) = (operand(b"SMITH"), operand(b"SMYTH"));
+    let answer = |length: i32, control: u8| pcmpestrm(&smith, length, &smyth, length, control);
+    let mask = |length: i32, control: u8| answer(length, control).map(|a| a.mask);
+    assert_eq!(mask(5, 0x18), Ok(operand(&[0x04])));
+    assert_eq!(mask(5, 0x58), Ok(operand(&[0, 0, 255])));
+    assert!(answer(5, 0x18).unwrap().flags.carry && answer(5, 0x58).unwrap().flags.carry);
+    let mut wide = [255; 16];
+    wide[2..4].fill(0);
+    assert_eq!(mask(2, 0x09), Ok(operand(&[0xfd])));
+    assert_eq!(mask(2, 0x49), Ok(wide));
+    let implicit = |control: u8| pcmpistrm(&operand(b"AZ"), &operand(b"a-B"), control).map(|a| a.mask);
+    assert_eq!(implicit(0x04), Ok(operand(&[0x04])));
+    assert_eq!(implicit(0x44), Ok(operand(&[0, 0, 255])));
+    assert_eq!(mask(5, 0x98), Err(Refusal::Control));
+    assert_eq!(mask(5, 0xd8), Err(Refusal::Control));
 }
 
 /// The four calls at one control, with lengths up to the largest `usize`.
