@@ -1,5 +1,5 @@
 -- Laws of `numberOf`, the number whose bit j is p j: its bits, what the machine's operations make
--- of it, and its least and greatest bit. Assumes nothing.
+-- of it, and its least and greatest bit; and the bits of a part of any number. Assumes nothing.
 use Prim.Native.Nat.{ℕ, zero, suc, _+_, _*_, _-_, _/_, _%_, _^_, _≤_, _<_, min, max}
 use mathlib.Core.Path.{_≡_, refl, sym, ap, subst, _∙_}
 use mathlib.Core.Bool.{Bool, true, false, cond, not, _&&_, _||_}
@@ -20,16 +20,16 @@ double true n = let e : 2 ^ suc n ≡ 2 ^ n * 2 = omega arith in e
 double false n = refl
 
 -- bit 0 apart
-pub number-front : (n : ℕ) (p : ℕ → Bool) → numberOf (suc n) p ≡ numberOf n (λ j. p (suc j)) * 2 + cond (p 0) 1 0
+number-front : (n : ℕ) (p : ℕ → Bool) → numberOf (suc n) p ≡ numberOf n (λ j. p (suc j)) * 2 + cond (p 0) 1 0
 unfolding numberOf
 number-front zero p = refl
 number-front (suc n) p = omega (arith, number-front n p, double (p (suc n)) n)
 
-pub half-of : (a : ℕ) (t : Bool) → (a * 2 + cond t 1 0) / 2 ≡ a
+half-of : (a : ℕ) (t : Bool) → (a * 2 + cond t 1 0) / 2 ≡ a
 half-of a true = omega arith
 half-of a false = omega arith
 
-pub odd-of : (a : ℕ) (t : Bool) → (a * 2 + cond t 1 0) % 2 ≡ cond t 1 0
+odd-of : (a : ℕ) (t : Bool) → (a * 2 + cond t 1 0) % 2 ≡ cond t 1 0
 odd-of a true = omega arith
 odd-of a false = omega arith
 
@@ -123,6 +123,14 @@ number-bit n j p h =
     subst (λ (m : ℕ). numberOf m p / 2 ^ j % 2 ≡ cond (p j) 1 0) q
     (rw (number-shift j (suc (n - suc j)) p, number-front (n - suc j) (λ i. p (j + i)), odd-of, add-zero j))
 
+bit-set : (t : Bool) → eqb (cond t 1 0) 1 ≡ t
+bit-set true = refl
+bit-set false = refl
+
+-- the same as a test
+pub number-set : (n j : ℕ) (p : ℕ → Bool) → j < n → eqb (numberOf n p / 2 ^ j % 2) 1 ≡ p j
+number-set n j p h = rw (number-bit n j p h) (bit-set (p j))
+
 -- bit j of a number's low n bits, and of the n bits from place q on
 cut-bit-by : (x d j : ℕ) → x % 2 ^ (d + 1 + j) / 2 ^ j % 2 ≡ x / 2 ^ j % 2
 cut-bit-by x d j = ap (λ (m : ℕ). m % 2) (field x (d + 1) j) ∙ mod-mod-pow (x / 2 ^ j) d 1
@@ -135,11 +143,6 @@ cut-bit x n j h =
 pub bit-from : (x q n j i : ℕ) → j < n → q + j ≡ i → x / 2 ^ q % 2 ^ n / 2 ^ j % 2 ≡ x / 2 ^ i % 2
 bit-from x q n j i h e =
     cut-bit (x / 2 ^ q) n j h ∙ ap (λ (m : ℕ). m % 2) (shr-shr x q j ∙ ap (λ (m : ℕ). x / 2 ^ m) e)
-
--- a bit as a number
-pub bit-set : (t : Bool) → eqb (cond t 1 0) 1 ≡ t
-bit-set true = refl
-bit-set false = refl
 
 no-bit : (t : Bool) → _≡_ {A = ℕ} (cond t 1 0) 0 → t ≡ false
 no-bit true e =

@@ -1,7 +1,7 @@
 -- The byte/word mask is the bit mask widened, with equal flags and refusal (specs/Selection.antt).
 -- IntRes2 does not depend on bit 6 of the control: the bit mask has its bits, the byte/word mask an
 -- element for each. Assumes nothing.
-use Prim.Native.Nat.{ℕ, _+_, _*_, _/_, _%_, _^_, _<_}
+use Prim.Native.Nat.{ℕ, _+_, _*_, _/_, _%_, _<_}
 use mathlib.Core.Path.{_≡_, refl, sym, ap, _∙_}
 use mathlib.Core.Bool.{Bool, true, false, cond}
 use mathlib.Core.List.{List, _∷_}
@@ -12,7 +12,7 @@ use borrow.Author.Tests.{lt-ltb, le-ltb}
 use Rattle.bits.specs.Bits.{numberOf, tabulate}
 use Rattle.bits.proofs.Below.{by-order}
 use Rattle.bits.proofs.Lists.{getD-tabulate}
-use Rattle.bits.proofs.Numbers.{number-bit, cut-bit, bit-from, bit-set, no-bits}
+use Rattle.bits.proofs.Numbers.{number-set, cut-bit, bit-from, no-bits}
 use Rattle.unit.specs.declared.Control.{Control}
 use Rattle.unit.specs.declared.MaskAnswer.{MaskAnswer}
 use Rattle.unit.specs.Control.{controlOf, aggregationOf, polarityOf}
@@ -20,9 +20,9 @@ use Rattle.unit.specs.Operand.{count, elements, wordAt, wordsOf}
 use Rattle.unit.specs.Compare.{Operands, operands, boolRes, intRes1, intRes2}
 use Rattle.unit.specs.Output.{bitMask, elementMask, maskOf, flagsOf, maskAnswer, refusedMask}
 use Rattle.unit.specs.Calls.{explicit, implicit, PCMPESTRM, PCMPISTRM}
-use Rattle.unit.specs.Agree.{Call, Explicit, Implicit, maskCall}
+use Rattle.unit.specs.Agree.{Explicit, Implicit}
 use Rattle.unit.proofs.Unit.{count-most, element-below}
-use Rattle.unit.specs.Selection.{withControl, maskBit, filled, Widened, MasksWiden}
+use Rattle.unit.specs.Selection.{maskBit, filled, Widened, MasksWiden}
 
 -- ---- the control
 
@@ -74,7 +74,7 @@ wide w p = tabulate 16 (λ i. cond (p (cond w (i / 2) i)) 255 0)
 narrow-bit : (w : Bool) (p : ℕ → Bool) (j : ℕ) → j < count w → maskBit (narrow w p) j ≡ p j
 narrow-bit w p j h =
     let n = numberOf (count w) p in
-    let back : eqb (n / 2 ^ j % 2) 1 ≡ p j = ap (λ (m : ℕ). eqb m 1) (number-bit (count w) j p h) ∙ bit-set (p j) in
+    let back = number-set (count w) j p h in
     by-order j 8
     (λ g.
     let a : j / 8 ≡ 0 = omega arith in

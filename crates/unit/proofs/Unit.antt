@@ -1,6 +1,6 @@
 -- The number of each mode is the number of IntRes1, the polarity makes IntRes2 of it, and index,
 -- mask and flags are read off that. Stated over the width, `w`: `count w` is b. Assumes nothing.
-use Prim.Native.Nat.{ℕ, zero, suc, _+_, _*_, _/_, _%_, _≤_, _<_, min}
+use Prim.Native.Nat.{ℕ, zero, suc, _+_, _*_, _/_, _%_, _^_, _≤_, _<_, min}
 use mathlib.Core.Path.{_≡_, refl, sym, ap, _∙_}
 use mathlib.Core.Bool.{Bool, true, false, cond, not, _&&_}
 use mathlib.Core.List.{List, [], _∷_}
@@ -17,7 +17,7 @@ use borrow.Author.Tests.{eq-eqb, ne-eqb, lt-ltb, le-ltb}
 use Rattle.bits.specs.Bits.{anyBelow, leastBelow, numberOf, tabulate}
 use Rattle.bits.proofs.Below.{and-over-or, and-false, any-cut, any-same, number-same, number-none}
 use Rattle.bits.proofs.Lists.{length-tabulate, tabulate-same}
-use Rattle.bits.proofs.Numbers.{number-xor, number-front, odd-of, number-bit, bit-set, least-read, greatest-read, every-bit}
+use Rattle.bits.proofs.Numbers.{number-xor, number-set, least-read, greatest-read, every-bit}
 use Rattle.unit.specs.declared.Control.{Control}
 use Rattle.unit.specs.declared.Compared.{Compared}
 use Rattle.unit.specs.declared.IndexAnswer.{IndexAnswer}
@@ -159,8 +159,9 @@ element-below true i h = omega arith
 element-below false i h = omega arith
 
 odd-bit : (n : ℕ) (p : ℕ → Bool) → 0 < n → eqb (numberOf n p % 2) 1 ≡ p 0
-odd-bit zero p h = absurd (omega arith)
-odd-bit (suc n) p h = rw (number-front n p, odd-of) (bit-set (p 0))
+odd-bit n p h =
+    let e : numberOf n p / 2 ^ 0 ≡ numberOf n p = omega arith in
+    rw e at (number-set n 0 p h)
 
 count-some : (w : Bool) → 0 < count w
 count-some true = omega arith
@@ -193,7 +194,7 @@ module _ (o : Operands) where
       let w = o .control .words in
       let e : elementRead w (numberOf b (intRes2 o)) ≡ tabulate 16 (λ i. cond (intRes2 o (cond w (i / 2) i)) 255 0) =
       tabulate-same 16 _ (λ i. cond (intRes2 o (cond w (i / 2) i)) 255 0)
-      (λ i u. ap (λ (t : Bool). cond t 255 0) (ap (λ (n : ℕ). eqb n 1) (number-bit b (cond w (i / 2) i) (intRes2 o) (element-below w i u)) ∙ bit-set (intRes2 o (cond w (i / 2) i)))) in
+      (λ i u. ap (λ (t : Bool). cond t 255 0) (number-set b (cond w (i / 2) i) (intRes2 o) (element-below w i u))) in
       λ t.
       cond (o .control .high) (e t) ((numberOf b (intRes2 o) % 256) ∷ (numberOf b (intRes2 o) / 256 % 256) ∷ replicate 14 0)
 
