@@ -7,7 +7,7 @@ use native.Mathlib.Omega.{arith}
 use lib.Dec.{ltb}
 use lib.IntN.{ℤ, pos, negsuc, natAbs, _-ℤ_, subℕ}
 use lib.Signed.{leZ, ltZ, mag}
-use mir.Syntax.{Width, w32}
+use mir.Syntax.{Width, w64}
 use mir.Val.{SFits, hbits}
 use borrow.Author.Tests.{leb-true, leb-false, ltb-true, lt-ltb, le-ltb}
 use Rattle.unit.specs.Operand.{bitsOf, valueOf}
@@ -32,7 +32,7 @@ pub kept : (z : ℤ) → ltZ z (pos 0) ≡ false → leZ (pos 16) z ≡ false �
 kept (pos a) h k = (refl, omega (arith, leb-false 16 a k))
 kept (negsuc a) h k = let e : _≡_ {A = ℕ} 0 1 = cc in absurd (omega arith)
 
-pub small : (n : ℕ) → n < 16 → SFits w32 (pos n)
+pub small : (n : ℕ) → n < 16 → SFits w64 (pos n)
 small n h = record { sfits = omega arith }
 
 -- ---- elements

@@ -41,7 +41,9 @@ valueOf words true x =
 
 -- The effective length (document 01: the length in force). Element i is valid when i is below it.
 
--- explicit: the absolute value, cut to b
+-- explicit: the absolute value of a signed number, cut to b. The number is what a 64-bit register
+-- holds, RAX for operand 1 and RDX for operand 2: the forms with REX.W (003, PCMPESTRI and
+-- PCMPESTRM, "Effective Operand Size").
 unfoldable pub explicitLength : ℕ → ℤ → ℕ
 explicitLength b z = min b (natAbs z)
 

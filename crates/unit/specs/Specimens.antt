@@ -1,13 +1,15 @@
 -- The worked examples U1 to U9 of document 01, with every value that it gives, in one list that one
--- computed check covers; and examples of the byte/word mask beside the bit mask (document 02,
--- request 3).
-use Prim.Native.Nat.{ℕ, _+_, _*_}
+-- computed check covers. A length is a whole number there, so they are also those of the lengths
+-- widened to 64 bits. Then examples of lengths past 32 bits, and of the byte/word mask beside the
+-- bit mask (document 02, requests 4 and 3).
+use Prim.Native.Nat.{ℕ, _+_, _*_, _-_, _^_}
 use mathlib.Core.Bool.{Bool, true, false, not, _&&_}
 use mathlib.Core.List.{List, [], _∷_, _++_}
 use lib.Dec.{T, eqb}
 use lib.ListN.{replicate, getD, take}
-use lib.IntN.{pos}
+use lib.IntN.{ℤ, pos, negsuc}
 use Rattle.bits.specs.Bits.{leastBelow, greatestBelow, tabulate, numberOf}
+use Rattle.unit.specs.declared.IndexAnswer.{IndexAnswer}
 use Rattle.unit.specs.declared.MaskAnswer.{MaskAnswer}
 use Rattle.unit.specs.Control.{controlOf}
 use Rattle.unit.specs.Operand.{count, explicitLength, wordsOf}
@@ -131,6 +133,53 @@ specimens = U1 ∷ U2 ∷ U3 ∷ U4 ∷ U5 ∷ U6 ∷ U7 ∷ U8 ∷ U9 ∷ []
 pub specimens-hold : T (all specimens)
 unfolding leastBelow greatestBelow tabulate numberOf specimens U1 U2 U3 U4 U5 U6 U7 U8 U9 firstResult result index CF ZF SF OF padded PCMPESTRI PCMPESTRM controlOf explicitLength wordsOf flagsOf indexOf maskOf bitMask elementMask intRes2 intRes1 boolRes
 specimens-hold = tt
+
+-- ---- lengths of 64 bits, whose low 32 bits mislead: alone they would be 0, -1, 3 and -3
+
+abbrev pub least : ℤ
+least = negsuc (2 ^ 63 - 1)
+
+abbrev pub greatest : ℤ
+greatest = pos (2 ^ 63 - 1)
+
+abbrev pub above : ℤ
+above = pos (2 ^ 32 + 3)
+
+abbrev pub below : ℤ
+below = negsuc (2 ^ 32 + 2)
+
+unfoldable pub indexed : List ℕ → ℤ → List ℕ → ℤ → ℕ → IndexAnswer
+indexed x₁ z₁ x₂ z₂ c = PCMPESTRI (padded x₁) z₁ (padded x₂) z₂ c
+
+-- W1: -2^63 for both: sixteen bytes, or eight words, are compared, and the names differ
+unfoldable pub W1 : Bool
+W1 =
+    eqb (indexed smith least smyth least 0x18 .index) 2
+    && eqb (indexed smith least smyth least 0x19 .index) 1
+    && not (indexed smith least smyth least 0x18 .flags .zero)
+    && not (indexed smith least smyth least 0x18 .flags .sign)
+
+-- W2: 2^63 - 1 bounds: the range from `A` to `Z` is among them, and `B` is in it
+unfoldable pub W2 : Bool
+W2 =
+    eqb (indexed az greatest a-B (pos 3) 0x04 .index) 2
+    && not (indexed az greatest a-B (pos 3) 0x04 .flags .sign)
+
+-- W3: a needle of 2^32 + 3: `ABC` and thirteen zeros, whose front stands at the block's end alone
+unfoldable pub W3 : Bool
+W3 =
+    eqb (indexed abc above text (pos 16) 0x0C .index) 14
+    && not (indexed abc above text (pos 16) 0x0C .flags .sign)
+
+-- W4: a text of -2^32 - 3: the whole block
+unfoldable pub W4 : Bool
+W4 =
+    eqb (indexed abc (pos 3) text below 0x0C .index) 5
+    && not (indexed abc (pos 3) text below 0x0C .flags .zero)
+
+pub lengths-hold : T (all (W1 ∷ W2 ∷ W3 ∷ W4 ∷ []))
+unfolding leastBelow tabulate numberOf W1 W2 W3 W4 indexed padded PCMPESTRI controlOf explicitLength wordsOf flagsOf indexOf intRes2 intRes1 boolRes
+lengths-hold = tt
 
 -- ---- masks, the narrow one and the wide one, by hand
 
