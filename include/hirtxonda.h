@@ -74,8 +74,10 @@ extern "C" {
  * aggregation, 5:4 the polarity, 6 which index or mask is wanted. The result has a bit for each
  * element of operand 2.
  *
- * An explicit length counts by its absolute value, and as 16 (8) where it is above that; INT32_MIN
- * counts as 16 (8) too. An implicit length is the number of elements before the first zero.
+ * An explicit length has 64 bits, as in the forms of the instructions with REX.W. It counts by its
+ * absolute value, and as 16 (8) where that is more; INT64_MIN counts as 16 (8) too. A length of 32
+ * bits is passed by its value, sign kept: as an int32_t, not as a uint32_t. An implicit length is
+ * the number of elements before the first zero.
  *
  * *flags is written with the flags in the places that they have in the register EFLAGS. Its other
  * bits are 0, and so are AF and PF.
@@ -91,8 +93,8 @@ extern "C" {
 /* PCMPESTRI has explicit lengths, PCMPISTRI implicit ones. They write *index and *flags. *index is
  * the least set bit of the result, with control bit 6 the greatest, or 16 (8) where none is set.
  * They return 0, or HX_CONTROL_REFUSED. */
-uint32_t hx_pcmpestri(const uint8_t operand1[16], int32_t length1, const uint8_t operand2[16],
-                      int32_t length2, uint8_t control, uint32_t *index, uint32_t *flags);
+uint32_t hx_pcmpestri(const uint8_t operand1[16], int64_t length1, const uint8_t operand2[16],
+                      int64_t length2, uint8_t control, uint32_t *index, uint32_t *flags);
 uint32_t hx_pcmpistri(const uint8_t operand1[16], const uint8_t operand2[16], uint8_t control,
                       uint32_t *index, uint32_t *flags);
 
@@ -101,8 +103,8 @@ uint32_t hx_pcmpistri(const uint8_t operand1[16], const uint8_t operand2[16], ui
  * 6 it has elements, each with all bits set or none, as its bit of the result says. *flags is the
  * same with bit 6 and without. docs/PERFORMANCE.md says how much stack they take.
  * They return 0, or HX_CONTROL_REFUSED. */
-uint32_t hx_pcmpestrm(const uint8_t operand1[16], int32_t length1, const uint8_t operand2[16],
-                      int32_t length2, uint8_t control, uint8_t mask[16], uint32_t *flags);
+uint32_t hx_pcmpestrm(const uint8_t operand1[16], int64_t length1, const uint8_t operand2[16],
+                      int64_t length2, uint8_t control, uint8_t mask[16], uint32_t *flags);
 uint32_t hx_pcmpistrm(const uint8_t operand1[16], const uint8_t operand2[16], uint8_t control,
                       uint8_t mask[16], uint32_t *flags);
 

@@ -68,18 +68,18 @@ declarations! {
 extern "C" {
     pub fn hx_pcmpestri(
         operand1: Block,
-        length1: i32,
+        length1: i64,
         operand2: Block,
-        length2: i32,
+        length2: i64,
         control: u8,
         index: *mut u32,
         flags: *mut u32,
     ) -> u32;
     pub fn hx_pcmpestrm(
         operand1: Block,
-        length1: i32,
+        length1: i64,
         operand2: Block,
-        length2: i32,
+        length2: i64,
         control: u8,
         mask: *mut [u8; 16],
         flags: *mut u32,

@@ -1,7 +1,8 @@
 //! The unit's four calls and the search on the processor's own instructions, where it has them.
 //!
 //! Nothing here comes from the proved library. The answers must be the same; the tests hold the two
-//! against each other.
+//! against each other. Of the explicit instructions the forms with REX.W are run, whose lengths are
+//! RAX and RDX.
 //!
 //! ```
 //! use hirtxonda::{matches, silicon};
@@ -19,7 +20,7 @@
 //! Every call but [`available`] panics where the processor lacks the instructions.
 
 use std::arch::asm;
-use std::arch::x86_64::{__m128i, _mm_cmpestri, _mm_loadu_si128};
+use std::arch::x86_64::{__m128i, _mm_loadu_si128};
 use std::mem::size_of_val;
 
 use crate::search::{accept_lengths, accept_stop};
@@ -43,18 +44,26 @@ fn demand() {
 /// The operands of an instruction.
 struct Operands {
     operand1: __m128i,
-    length1: i32,
+    length1: i64,
     operand2: __m128i,
-    length2: i32,
+    length2: i64,
 }
 
 /// One instruction at one control, which is part of the instruction. Gives ECX or XMM0, and EFLAGS.
 type Instruction<Output> = unsafe fn(&Operands) -> (Output, u64);
 
+/// PCMPESTRI or PCMPESTRM with REX.W, by its opcode, of XMM1 and XMM2: byte by byte, since the
+/// assembler has no name for this form.
+macro_rules! wide {
+    ($opcode:literal) => {
+        concat!(".byte 0x66, 0x48, 0x0f, 0x3a, ", $opcode, ", 0xca, {control}")
+    };
+}
+
 /// An instruction as a function over the control. Before it, 10h - 01h sets AF and PF, so that it
 /// is seen to reset them.
 macro_rules! instruction {
-    ($name:ident, $mnemonic:literal, $place:tt $output:ty) => {
+    ($name:ident, $instruction:expr, $place:tt $output:ty) => {
         #[target_feature(enable = "sse4.2")]
         fn $name<const CONTROL: u8>(operands: &Operands) -> ($output, u64) {
             let (output, flags);
@@ -64,13 +73,13 @@ macro_rules! instruction {
                 asm!(
                     "mov {flags:l}, 16",
                     "sub {flags:l}, 1",
-                    concat!($mnemonic, " {operand1}, {operand2}, {control}"),
+                    $instruction,
                     "pushfq",
                     "pop {flags}",
-                    operand1 = in(xmm_reg) operands.operand1,
-                    operand2 = in(xmm_reg) operands.operand2,
-                    in("eax") operands.length1,
-                    in("edx") operands.length2,
+                    in("xmm1") operands.operand1,
+                    in("xmm2") operands.operand2,
+                    in("rax") operands.length1,
+                    in("rdx") operands.length2,
                     lateout($place) output,
                     flags = out(reg) flags,
                     control = const CONTROL,
@@ -82,10 +91,10 @@ macro_rules! instruction {
     };
 }
 
-instruction!(estri, "pcmpestri", "ecx" u32);
-instruction!(estrm, "pcmpestrm", "xmm0" __m128i);
-instruction!(istri, "pcmpistri", "ecx" u32);
-instruction!(istrm, "pcmpistrm", "xmm0" __m128i);
+instruction!(estri, wide!("0x61"), "ecx" u32);
+instruction!(estrm, wide!("0x60"), "xmm0" __m128i);
+instruction!(istri, "pcmpistri xmm1, xmm2, {control}", "ecx" u32);
+instruction!(istrm, "pcmpistrm xmm1, xmm2, {control}", "xmm0" __m128i);
 
 /// A table of one instruction at all 128 controls.
 macro_rules! all_controls {
@@ -110,8 +119,8 @@ static ISTRM: [Instruction<__m128i>; 128] = all_controls!(istrm);
 
 fn run<Output>(
     table: &[Instruction<Output>; 128],
-    (operand1, length1): (&[u8; 16], i32),
-    (operand2, length2): (&[u8; 16], i32),
+    (operand1, length1): (&[u8; 16], i64),
+    (operand2, length2): (&[u8; 16], i64),
     control: u8,
 ) -> Result<(Output, Flags), Refusal> {
     demand();
@@ -155,9 +164,9 @@ macro_rules! calls {
         /// ```
         pub fn $name(
             operand1: &[u8; 16],
-            $($length1: i32,)?
+            $($length1: i64,)?
             operand2: &[u8; 16],
-            $($length2: i32,)?
+            $($length2: i64,)?
             control: u8,
         ) -> Result<$answer, Refusal> {
             let (length1, length2) = (0 $(+ $length1)?, 0 $(+ $length2)?);
@@ -319,7 +328,7 @@ fn later_pieces_stand<E: Element>(text: &[E], needle: &[E], compares: &mut u64) 
 
 /// A part of a text in a register, zero past its end, and its length.
 #[target_feature(enable = "sse4.2")]
-fn operand<E: Element>(part: &[E]) -> (__m128i, i32) {
+fn operand<E: Element>(part: &[E]) -> (__m128i, i64) {
     let size = size_of_val(part);
     let mut bytes = [0u8; 16];
     assert!(size <= 16);
@@ -333,28 +342,46 @@ fn operand<E: Element>(part: &[E]) -> (__m128i, i32) {
             _mm_loadu_si128(bytes.as_ptr().cast())
         }
     };
-    (operand, part.len() as i32)
+    (operand, part.len() as i64)
+}
+
+/// The index of PCMPESTRI at a control.
+#[target_feature(enable = "sse4.2")]
+fn index<const CONTROL: u8>((a, length_a): (__m128i, i64), (b, length_b): (__m128i, i64)) -> usize {
+    let index: u64;
+    // SAFETY: the instruction reads and writes these registers and the flags alone.
+    unsafe {
+        asm!(
+            wide!("0x61"),
+            in("xmm1") a,
+            in("xmm2") b,
+            in("rax") length_a,
+            in("rdx") length_b,
+            lateout("rcx") index,
+            control = const CONTROL,
+            options(pure, nomem, nostack),
+        );
+    }
+    index as usize
 }
 
 /// Equal ordered, positive, least index: where the first operand stands in the second, as far as
 /// the block goes.
 #[target_feature(enable = "sse4.2")]
-fn ordered<E: Element>((a, length_a): (__m128i, i32), (b, length_b): (__m128i, i32)) -> usize {
-    let index = if E::BLOCK == 16 {
-        _mm_cmpestri::<0x0c>(a, length_a, b, length_b)
+fn ordered<E: Element>(a: (__m128i, i64), b: (__m128i, i64)) -> usize {
+    if E::BLOCK == 16 {
+        index::<0x0c>(a, b)
     } else {
-        _mm_cmpestri::<0x0d>(a, length_a, b, length_b)
-    };
-    index as usize
+        index::<0x0d>(a, b)
+    }
 }
 
 /// Equal each, negative, least index: where the two operands first differ.
 #[target_feature(enable = "sse4.2")]
-fn differ_at<E: Element>((a, length_a): (__m128i, i32), (b, length_b): (__m128i, i32)) -> usize {
-    let index = if E::BLOCK == 16 {
-        _mm_cmpestri::<0x18>(a, length_a, b, length_b)
+fn differ_at<E: Element>(a: (__m128i, i64), b: (__m128i, i64)) -> usize {
+    if E::BLOCK == 16 {
+        index::<0x18>(a, b)
     } else {
-        _mm_cmpestri::<0x19>(a, length_a, b, length_b)
-    };
-    index as usize
+        index::<0x19>(a, b)
+    }
 }

@@ -74,7 +74,9 @@ pub struct MaskAnswer {
 /// PCMPESTRI: compares operands of explicit length, and gives an index.
 ///
 /// The control byte is that of the instruction: bits 1:0 the elements, 3:2 the aggregation, 5:4 the
-/// polarity, 6 the output. A length counts by its absolute value, cut to 16 bytes or 8 words.
+/// polarity, 6 the output. A length counts by its absolute value, cut to 16 bytes or 8 words; all
+/// its 64 bits count, as for the instruction with REX.W. A length of 32 bits is passed by its
+/// value, sign kept, as `i64::from` does.
 ///
 /// ```
 /// use hirtxonda::pcmpestri;
@@ -82,6 +84,11 @@ pub struct MaskAnswer {
 /// // 18h: bytes, equal each, negative, least index: where do the two first differ?
 /// let answer = pcmpestri(b"SMITH...........", 5, b"SMYTH***********", 5, 0x18)?;
 /// assert_eq!(answer.index, 2);
+///
+/// // A length of 32 bits by its value, here -5, which counts as 5.
+/// let length: i32 = -5;
+/// let same = pcmpestri(b"SMITH...........", length.into(), b"SMYTH***********", 5, 0x18)?;
+/// assert_eq!(same, answer);
 /// # Ok::<(), hirtxonda::Refusal>(())
 /// ```
 ///
@@ -90,9 +97,9 @@ pub struct MaskAnswer {
 /// [`Refusal::Control`] for a control above 127; the same for the other three.
 pub fn pcmpestri(
     operand1: &[u8; 16],
-    length1: i32,
+    length1: i64,
     operand2: &[u8; 16],
-    length2: i32,
+    length2: i64,
     control: u8,
 ) -> Result<IndexAnswer, Refusal> {
     // SAFETY: four references; the two that are written are to locals.
@@ -124,9 +131,9 @@ pub fn pcmpistri(operand1: &[u8; 16], operand2: &[u8; 16], control: u8) -> Resul
 /// ```
 pub fn pcmpestrm(
     operand1: &[u8; 16],
-    length1: i32,
+    length1: i64,
     operand2: &[u8; 16],
-    length2: i32,
+    length2: i64,
     control: u8,
 ) -> Result<MaskAnswer, Refusal> {
     // SAFETY: as for `pcmpestri`.

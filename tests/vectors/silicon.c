@@ -1,4 +1,5 @@
-/* Prints what the program `vectors` must print, from the processor's own SSE4.2 instructions.
+/* Prints what the program `vectors` must print, from the processor's own SSE4.2 instructions; the
+ * explicit ones in the form with REX.W, whose lengths are RAX and RDX.
  *
  * A line for each of the four instructions and each control from 00h to 7Fh, with a digest of the
  * answers over 256 generated blocks. The generator, the blocks and the digest are those of
@@ -14,8 +15,10 @@ static const uint64_t SEED = 0x9e3779b97f4a7c15;
 
 static const uint8_t EDGES[8] = {0x00, 0x01, 0x7e, 0x7f, 0x80, 0x81, 0xfe, 0xff};
 
-static const int32_t LENGTHS[23] = {
-    0, 1, -1, 2, 3, 5, 7, -7, 8, -8, 9, -9, 12, 15, -15, 16, -16, 17, -17, INT32_MAX, INT32_MIN, 100, -100,
+static const int64_t LENGTHS[32] = {
+    0, 1, -1, 2, 3, 5, 7, -7, 8, -8, 9, -9, 12, 15, -15, 16, -16, 17, -17, 100, -100, INT32_MAX, INT32_MIN,
+    INT64_C(0x80000000), INT64_C(-0x80000001), INT64_C(0xffffffff), INT64_C(0x100000000), INT64_C(-0x100000000),
+    INT64_C(0x100000003), INT64_C(-0x100000003), INT64_MAX, INT64_MIN,
 };
 
 enum call { PCMPESTRI, PCMPESTRM, PCMPISTRI, PCMPISTRM };
@@ -24,7 +27,7 @@ static const char *const NAMES[4] = {"pcmpestri", "pcmpestrm", "pcmpistri", "pcm
 
 struct block {
     uint8_t operand1[16], operand2[16];
-    int32_t length1, length2;
+    int64_t length1, length2;
 };
 
 /* What an instruction left: ECX or XMM0, LAHF's byte, and OF. */
@@ -37,13 +40,16 @@ struct answer {
 /* The four instructions. The control is part of the instruction, so each control has code of its
  * own, a case of a switch. Before it, 10h - 01h sets AF and PF, so that the instruction is seen to
  * reset them. After it, LAHF copies SF, ZF, AF, PF and CF to AH, and SETO copies OF to AL. Operand
- * 1 is the destination, which AT&T syntax writes last. */
+ * 1 is the destination, which AT&T syntax writes last. The explicit ones are written byte by byte,
+ * since some assemblers have no name for the form with REX.W: 66h, 48h for REX.W, 0Fh 3Ah, 61h or
+ * 60h, a ModRM byte for XMM1 and XMM2, the control. tests/vectors/run looks for these bytes in the
+ * program. */
 #define PREPARE "movb $0x10, %%sil\n\tsubb $1, %%sil\n\t"
 #define TAKE_FLAGS "\n\tlahf\n\tseto %%al"
 
 #define CASE_PCMPESTRI(n)                                                                            \
     case n:                                                                                          \
-        __asm__(PREPARE "pcmpestri %[control], %[b], %[a]" TAKE_FLAGS                                \
+        __asm__(PREPARE ".byte 0x66, 0x48, 0x0f, 0x3a, 0x61, 0xca, %c[control]" TAKE_FLAGS           \
                 : "=a"(flags), "=c"(index)                                                           \
                 : "a"(length1), "d"(length2), [a] "x"(a), [b] "x"(b), [control] "i"(n)               \
                 : "rsi", "cc");                                                                      \
@@ -51,7 +57,7 @@ struct answer {
 
 #define CASE_PCMPESTRM(n)                                                                            \
     case n:                                                                                          \
-        __asm__(PREPARE "pcmpestrm %[control], %[b], %[a]" TAKE_FLAGS                                \
+        __asm__(PREPARE ".byte 0x66, 0x48, 0x0f, 0x3a, 0x60, 0xca, %c[control]" TAKE_FLAGS           \
                 : "=a"(flags), "=Yz"(mask)                                                           \
                 : "a"(length1), "d"(length2), [a] "x"(a), [b] "x"(b), [control] "i"(n)               \
                 : "rsi", "cc");                                                                      \
@@ -80,9 +86,9 @@ struct answer {
 
 static struct answer run(enum call call, const struct block *block, unsigned control)
 {
-    const __m128i a = _mm_loadu_si128((const __m128i *)block->operand1);
-    const __m128i b = _mm_loadu_si128((const __m128i *)block->operand2);
-    const int32_t length1 = block->length1, length2 = block->length2;
+    register const __m128i a __asm__("xmm1") = _mm_loadu_si128((const __m128i *)block->operand1);
+    register const __m128i b __asm__("xmm2") = _mm_loadu_si128((const __m128i *)block->operand2);
+    const int64_t length1 = block->length1, length2 = block->length2;
     __m128i mask = _mm_setzero_si128();
     uint32_t index = 0, flags = 0;
     struct answer answer;
@@ -201,9 +207,9 @@ static void related(uint64_t relation, const uint8_t text[16], const uint8_t oth
     }
 }
 
-static int32_t length(uint64_t draw)
+static int64_t length(uint64_t draw)
 {
-    return LENGTHS[draw % 23];
+    return LENGTHS[draw % 32];
 }
 
 static uint64_t generate(uint64_t number, uint64_t state, struct block *block)

@@ -62,9 +62,9 @@ fn give_mask(masked: MaskAnswer, mask: &mut [u8; 16], flags: &mut u32) -> u32
 #[no_mangle]
 pub extern "C" fn hx_pcmpestri(
     operand1: &[u8; 16],
-    length1: i32,
+    length1: i64,
     operand2: &[u8; 16],
-    length2: i32,
+    length2: i64,
     control: u8,
     index: &mut u32,
     flags: &mut u32,
@@ -84,9 +84,9 @@ pub extern "C" fn hx_pcmpestri(
 #[no_mangle]
 pub extern "C" fn hx_pcmpestrm(
     operand1: &[u8; 16],
-    length1: i32,
+    length1: i64,
     operand2: &[u8; 16],
-    length2: i32,
+    length2: i64,
     control: u8,
     mask: &mut [u8; 16],
     flags: &mut u32,

@@ -187,9 +187,9 @@ fn compared(k: Control, x1: &[u8; 16], l1: usize, x2: &[u8; 16], l2: usize) -> C
 // What an explicit call compares.
 pub(crate) fn explicit(
     operand1: [u8; 16],
-    length1: i32,
+    length1: i64,
     operand2: [u8; 16],
-    length2: i32,
+    length2: i64,
     k: Control,
 ) -> Compared
     requires { ⌜ k .words ≡ inBytes ⌝ }
@@ -197,6 +197,22 @@ pub(crate) fn explicit(
 {
     let l1 = operand::explicit_length(false, length1);
     let l2 = operand::explicit_length(false, length2);
+    compared(k, &operand1, l1, &operand2, l2)
+}
+
+// The same, for lengths that are not negative.
+pub(crate) fn explicit_usize(
+    operand1: [u8; 16],
+    length1: usize,
+    operand2: [u8; 16],
+    length2: usize,
+    k: Control,
+) -> Compared
+    requires { ⌜ k .words ≡ inBytes ⌝ }
+    ensures { λ r. ⌜ r ≡ comparedOf (explicit operand1 (pos length1) operand2 (pos length2) k) ⌝ }
+{
+    let l1 = bits::min(16, length1);
+    let l2 = bits::min(16, length2);
     compared(k, &operand1, l1, &operand2, l2)
 }
 

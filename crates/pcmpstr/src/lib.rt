@@ -2,9 +2,11 @@
 // as calls, proved equal to their definition (crate `unit`).
 //
 // Public calls: `pcmpestri`, `pcmpestrm`, `pcmpistri`, `pcmpistrm`, with the arguments of Intel's
-// intrinsics in their order; and for searches `pcmpestri_0c`, `pcmpestri_0d`, `pcmpestri_18`,
-// `pcmpestri_19`, the index of `pcmpestri` at that control, for lengths that are not negative. Data
-// flows through `stages::fields`, then `modes`, then `stages::index` or `stages::mask`.
+// intrinsics in their order, but lengths of 64 bits: the explicit ones are the forms with REX.W.
+// For callers whose lengths are never negative: `pcmpestri_usize`, the same as `pcmpestri`; and for
+// searches `pcmpestri_0c`, `pcmpestri_0d`, `pcmpestri_18`, `pcmpestri_19`, its index at that
+// control. Data flows through `stages::fields`, then `modes`, then `stages::index` or
+// `stages::mask`.
 
 use modes::bytes;
 use modes::words;
@@ -23,9 +25,9 @@ const GREATEST_CONTROL: u8 = 127;
 // Packed compare of strings of explicit length, the answer an index.
 pub fn pcmpestri(
     operand1: [u8; 16],
-    length1: i32,
+    length1: i64,
     operand2: [u8; 16],
-    length2: i32,
+    length2: i64,
     control: u8,
 ) -> IndexAnswer
     ensures { λ r. ⌜ r ≡ PCMPESTRI operand1 length1 operand2 length2 control ⌝ }
@@ -37,12 +39,32 @@ pub fn pcmpestri(
     index::answer(k, modes::explicit(operand1, length1, operand2, length2, k))
 }
 
+// The same, for lengths that are not negative.
+pub fn pcmpestri_usize(
+    operand1: [u8; 16],
+    length1: usize,
+    operand2: [u8; 16],
+    length2: usize,
+    control: u8,
+) -> IndexAnswer
+    ensures { λ r. ⌜ r ≡ PCMPESTRI operand1 (pos length1) operand2 (pos length2) control ⌝ }
+{
+    if control > GREATEST_CONTROL {
+        return index::refused();
+    }
+    let k = fields::decode(control);
+    index::answer(
+        k,
+        modes::explicit_usize(operand1, length1, operand2, length2, k),
+    )
+}
+
 // Packed compare of strings of explicit length, the answer a mask.
 pub fn pcmpestrm(
     operand1: [u8; 16],
-    length1: i32,
+    length1: i64,
     operand2: [u8; 16],
-    length2: i32,
+    length2: i64,
     control: u8,
 ) -> MaskAnswer
     ensures { λ r. ⌜ r ≡ PCMPESTRM operand1 length1 operand2 length2 control ⌝ }

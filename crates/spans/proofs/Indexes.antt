@@ -8,7 +8,7 @@ use mathlib.Core.List.{List}
 use native.Mathlib.Omega.{arith}
 use lib.Dec.{ltb}
 use lib.ListN.{length, getD, take, drop}
-use lib.IntN.{ℤ, pos}
+use lib.IntN.{pos}
 use lib.Seq.{getD-take, getD-drop}
 use borrow.Author.Tests.{lt-ltb, le-ltb}
 use Rattle.bits.specs.Bits.{leastBelow}
@@ -69,13 +69,12 @@ control-small true true = omega arith
 
 -- ---- the compare as code makes it
 
-pub front-called : (words : Bool) (text o b : List ℕ) (i e c : ℕ) (l l' z : ℤ) (answer : IndexAnswer) → e ≡ min (i + count words) (length text) → i ≤ length text → l' ≡ l → b ≡ operandOf words (take (e - i) (drop i text)) → z ≡ pos (e - i) → answer ≡ PCMPESTRI o l' b z c → answer .index ≡ frontIndex words o l text i c
+pub front-called : (words : Bool) (text o b : List ℕ) (i e c l : ℕ) (answer : IndexAnswer) → e ≡ min (i + count words) (length text) → i ≤ length text → b ≡ operandOf words (take (e - i) (drop i text)) → answer ≡ PCMPESTRI o (pos l) b (pos (e - i)) c → answer .index ≡ frontIndex words o l text i c
 unfolding frontIndex
-front-called words text o b i e c l l' z answer he hi hl hb hz ha =
+front-called words text o b i e c l answer he hi hb ha =
     let size : e - i ≡ length (block words i text) = rw he (sym (part-size i (min (i + count words) (length text)) text (omega arith))) in
     let operand : b ≡ operandOf words (block words i text) = hb ∙ (λ t. operandOf words (take (he t - i) (drop i text))) in
-    let len : z ≡ pos (length (block words i text)) = hz ∙ ap pos size in
-    ap (λ (r : IndexAnswer). r .index) ha ∙ (λ t. PCMPESTRI o (hl t) (operand t) (len t) c .index)
+    ap (λ (r : IndexAnswer). r .index) ha ∙ (λ t. PCMPESTRI o (pos l) (operand t) (pos (size t)) c .index)
 
 -- ---- the blocks of a text
 
@@ -96,7 +95,7 @@ module _ (words ranges signed : Bool) (list text : List ℕ) where
   span-whole i e clear = e ∙ sym (least-none (length text) outsideAt (λ j h. clear j (omega arith)))
 
   -- the block from i on, whose index is k, as the loop asks for it
-  module _ (i k c : ℕ) (o : List ℕ) (l : ℤ) (ho : o ≡ operandOf words list) (hl : l ≡ pos (length list)) (hc : c ≡ spanControl ranges signed + cond words 1 0) (hs : length list ≤ count words) (hi : i < length text) (clear : ClearTo words ranges signed list text i) (hk : k ≡ frontIndex words o l text i c) where
+  module _ (i k c : ℕ) (o : List ℕ) (l : ℕ) (ho : o ≡ operandOf words list) (hl : l ≡ length list) (hc : c ≡ spanControl ranges signed + cond words 1 0) (hs : length list ≤ count words) (hi : i < length text) (clear : ClearTo words ranges signed list text i) (hk : k ≡ frontIndex words o l text i c) where
     abbrev size : ℕ
     size = min (i + count words) (length text) - i
 
@@ -108,7 +107,7 @@ module _ (words ranges signed : Bool) (list text : List ℕ) where
 
     compared : k ≡ compareIndex words (spanControl ranges signed) list (block words i text)
     unfolding frontIndex compareIndex
-    compared = hk ∙ (λ t. PCMPESTRI (ho t) (hl t) (operandOf words (block words i text)) (pos (length (block words i text))) (hc t) .index)
+    compared = hk ∙ (λ t. PCMPESTRI (ho t) (pos (hl t)) (operandOf words (block words i text)) (pos (length (block words i text))) (hc t) .index)
 
     least : k ≡ leastBelow (count words) bit
     least = compared ∙ span-index list (block words i text) words ranges signed hs (omega (arith, block-size))

@@ -4,7 +4,7 @@ use Prim.Native.Nat.{ℕ, _+_, _-_, min}
 use mathlib.Core.Bool.{Bool, true, false}
 use mathlib.Core.List.{List}
 use lib.ListN.{length, take, drop}
-use lib.IntN.{ℤ, pos}
+use lib.IntN.{pos}
 use Rattle.unit.specs.Operand.{count, valueOf}
 use Rattle.unit.specs.Calls.{PCMPESTRI}
 use Rattle.blocks.specs.Blocks.{operandOf}
@@ -27,7 +27,7 @@ abbrev pub block : Bool → ℕ → List ℕ → List ℕ
 block words i text = take (min (i + count words) (length text) - i) (drop i text)
 
 -- the index that the unit gives for an operand of length l and that block
-unfoldable pub frontIndex : Bool → List ℕ → ℤ → List ℕ → ℕ → ℕ → ℕ
+unfoldable pub frontIndex : Bool → List ℕ → ℕ → List ℕ → ℕ → ℕ → ℕ
 frontIndex words o l text i control =
-    PCMPESTRI o l (operandOf words (block words i text)) (pos (length (block words i text)))
+    PCMPESTRI o (pos l) (operandOf words (block words i text)) (pos (length (block words i text)))
     control .index

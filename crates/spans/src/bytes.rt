@@ -9,13 +9,13 @@ ghost use Rattle.spans.specs.BlockFront.{belongs, frontIndex};
 
 // How many bytes belong at the front of the block that begins at i: the first that does not is what
 // the unit finds. `list` is the operand of a set or of bounds.
-fn front(list: [u8; 16], l: i32, text: &[u8], i: usize, control: u8) -> usize
+fn front(list: [u8; 16], l: usize, text: &[u8], i: usize, control: u8) -> usize
     requires { ⌜ (i ≤ length (now text)) × (length (now text) ≤ longestText) ⌝ }
     ensures { λ r. ⌜ r ≡ frontIndex inBytes list l (now (text .entry)) i control ⌝ }
 {
     let e = bits::min(i + 16, text.len());
     let block = blocks::padded_bytes(&text[i..e]);
-    let answer = pcmpstr::pcmpestri(list, l, block, (e - i) as i32, control);
+    let answer = pcmpstr::pcmpestri_usize(list, l, block, e - i, control);
     answer.index as usize
 }
 
@@ -27,11 +27,10 @@ fn length_of_span(text: &[u8], list: &[u8], ranges: bool, signed: bool) -> usize
         ≡ spanLength (belongs inBytes ranges signed (now (list .entry))) (now (text .entry)) ⌝ }
 {
     let operand = blocks::padded_bytes(list);
-    let l = list.len() as i32;
     let control = crate::span_control(ranges, signed);
     let mut i = 0;
     while i < text.len() {
-        let belong = front(operand, l, text, i, control);
+        let belong = front(operand, list.len(), text, i, control);
         if belong < 16 {
             return i + belong;
         }

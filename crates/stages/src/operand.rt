@@ -11,9 +11,9 @@ pub fn count_of(words: bool) -> usize
     if words { 8 } else { 16 }
 }
 
-// The absolute value of a length, cut to 16. The least length of all is cut before it would be
-// negated.
-fn magnitude(length: i32) -> usize
+// The absolute value of a length, cut to 16. The least length of all, -2^63, is cut before it would
+// be negated.
+fn magnitude(length: i64) -> usize
     ensures { λ r. ⌜ r ≡ min 16 (natAbs length) ⌝ }
 {
     if length >= 16 {
@@ -29,7 +29,7 @@ fn magnitude(length: i32) -> usize
 }
 
 // The effective length of an operand, from an explicit length.
-pub fn explicit_length(words: bool, length: i32) -> usize
+pub fn explicit_length(words: bool, length: i64) -> usize
     ensures { λ r. ⌜ r ≡ explicitLength (count words) length ⌝ }
 {
     bits::min(count_of(words), magnitude(length))

@@ -3,8 +3,9 @@
 // two operands and two lengths; a control has 256 blocks, the same for the four calls.
 //
 // The expected output, the file `stdout` of this crate, was not made by this program. A processor
-// that has the instructions made it, by tests/vectors/silicon.c, which draws the same blocks and
-// folds the answers in the same order. What is changed here is changed there.
+// that has the instructions made it, the explicit ones with lengths of 64 bits, by
+// tests/vectors/silicon.c, which draws the same blocks and folds the answers in the same order.
+// What is changed here is changed there.
 
 // Where the generator and every digest start. Any number but 0 would do.
 const SEED: u64 = 0x9e3779b97f4a7c15;
@@ -12,9 +13,9 @@ const SEED: u64 = 0x9e3779b97f4a7c15;
 // The bytes at which a signed or unsigned order, or an end of string, is easily mistaken.
 const EDGES: [u8; 8] = [0x00, 0x01, 0x7e, 0x7f, 0x80, 0x81, 0xfe, 0xff];
 
-// Explicit lengths: within an operand of bytes or words, at its end, past it, negative, and the two
-// ends of the type.
-const LENGTHS: [i32; 23] = [
+// Explicit lengths: within an operand of bytes or words, at its end, past it, negative; around the
+// ends of 32 bits, and where the low 32 bits would be another length; the two ends of the type.
+const LENGTHS: [i64; 32] = [
     0,
     1,
     -1,
@@ -34,10 +35,19 @@ const LENGTHS: [i32; 23] = [
     -16,
     17,
     -17,
-    2147483647,
-    -2147483648,
     100,
     -100,
+    2147483647,
+    -2147483648,
+    2147483648,
+    -2147483649,
+    4294967295,
+    4294967296,
+    -4294967296,
+    4294967299,
+    -4294967299,
+    9223372036854775807,
+    -9223372036854775808,
 ];
 
 // The four calls.
@@ -57,9 +67,9 @@ struct Drawn {
 // What a call is run on, and the generator's state after it.
 struct Block {
     operand1: [u8; 16],
-    length1: i32,
+    length1: i64,
     operand2: [u8; 16],
-    length2: i32,
+    length2: i64,
     state: u64,
 }
 
@@ -179,8 +189,8 @@ fn related(relation: u64, text: [u8; 16], other: [u8; 16], draw: u64) -> [u8; 16
 }
 
 // The explicit length that a draw picks.
-fn length(draw: u64) -> i32 {
-    LENGTHS[(draw % 23) as usize]
+fn length(draw: u64) -> i64 {
+    LENGTHS[(draw % 32) as usize]
 }
 
 // The block of a number: the number picks the alphabet and the relation, so that sixteen blocks

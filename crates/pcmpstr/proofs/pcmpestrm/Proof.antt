@@ -5,7 +5,7 @@ use Rattle.unit.specs.Control.{controlOf}
 use Rattle.unit.specs.Output.{maskAnswer, refusedMask}
 use Rattle.unit.specs.Calls.{explicit, PCMPESTRM}
 use Rattle.unit.proofs.Unit.{refused, mask-called}
-use mir.Syntax.{w32}
+use mir.Syntax.{w64}
 use mir.ValLaws.{toZ-ofZ}
 use borrow.Author.Needs.{needs}
 use native.Mathlib.Omega.{arith}
@@ -36,7 +36,7 @@ returns-2 c =
     let s = c .before .before .before .before in
     let a = s .args in
     let k = c .before .before .decode in
-    mask-called (explicit (a .operand1) (a .length1) (a .operand2) (a .length2)) (a .control) (k .result) (c .before .explicit .result) refl (omega arith) (k .ensures) (rw (toZ-ofZ w32 (a .length1) (s .fits .length1), toZ-ofZ w32 (a .length2) (s .fits .length2)) at (c .before .explicit .ensures)) (c .answer .result) (c .answer .ensures)
+    mask-called (explicit (a .operand1) (a .length1) (a .operand2) (a .length2)) (a .control) (k .result) (c .before .explicit .result) refl (omega arith) (k .ensures) (rw (toZ-ofZ w64 (a .length1) (s .fits .length1), toZ-ofZ w64 (a .length2) (s .fits .length2)) at (c .before .explicit .ensures)) (c .answer .result) (c .answer .ensures)
 
 pub pcmpestrm-spec : {M : Type 1} → statement M
 pcmpestrm-spec =

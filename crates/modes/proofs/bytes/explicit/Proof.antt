@@ -1,7 +1,7 @@
 -- `modes::bytes::explicit` meets its contract: it hands on the elements and effective lengths that
 -- the definition names. Assumes nothing.
 use mathlib.Core.Path.{refl}
-use mir.Syntax.{w32}
+use mir.Syntax.{w64}
 use mir.ValLaws.{toZ-ofZ}
 use Rattle.unit.specs.Operand.{inBytes}
 use Rattle.unit.proofs.Unit.{explicit-most, explicit-is}
@@ -25,8 +25,8 @@ returns c =
     let a = s .args in
     let f = c .before .before .before .before .explicit-length in
     let g = c .before .before .before .explicit-length2 in
-    let l₁ = rw (toZ-ofZ w32 (a .length1) (s .fits .length1)) at (f .ensures) in
-    let l₂ = rw (toZ-ofZ w32 (a .length2) (s .fits .length2)) at (g .ensures) in
+    let l₁ = rw (toZ-ofZ w64 (a .length1) (s .fits .length1)) at (f .ensures) in
+    let l₂ = rw (toZ-ofZ w64 (a .length2) (s .fits .length2)) at (g .ensures) in
     explicit-is (a .k) inBytes (a .t1) (a .length1) (a .t3) (a .length2) (a .t1) (f .result) (a .t3) (g .result) (c .compared .result) (s .pre) refl l₁ refl l₂ (c .compared .ensures)
 
 pub explicit-spec : {M : Type 1} → statement M

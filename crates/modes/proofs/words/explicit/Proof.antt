@@ -1,6 +1,6 @@
 -- `modes::words::explicit` meets its contract: it hands on the elements and effective lengths that
 -- the definition names. Assumes nothing.
-use mir.Syntax.{w32}
+use mir.Syntax.{w64}
 use mir.ValLaws.{toZ-ofZ}
 use Rattle.unit.specs.Operand.{inWords}
 use Rattle.unit.proofs.Unit.{explicit-most, explicit-is}
@@ -30,8 +30,8 @@ returns c =
     let a = s .args in
     let f = c .before .before .before .before .before .before .explicit-length in
     let g = c .before .before .before .before .before .explicit-length2 in
-    let l₁ = rw (toZ-ofZ w32 (a .length1) (s .fits .length1)) at (f .ensures) in
-    let l₂ = rw (toZ-ofZ w32 (a .length2) (s .fits .length2)) at (g .ensures) in
+    let l₁ = rw (toZ-ofZ w64 (a .length1) (s .fits .length1)) at (f .ensures) in
+    let l₂ = rw (toZ-ofZ w64 (a .length2) (s .fits .length2)) at (g .ensures) in
     explicit-is (a .k) inWords (a .operand1) (a .length1) (a .operand2) (a .length2) (c .before .before .before .before .words-of .result) (f .result) (c .before .before .before .words-of2 .result) (g .result) (c .compared .result) (s .pre) (c .before .before .before .before .words-of .ensures) l₁ (c .before .before .before .words-of2 .ensures) l₂ (c .compared .ensures)
 
 pub explicit-spec : {M : Type 1} → statement M

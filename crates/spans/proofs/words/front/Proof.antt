@@ -1,8 +1,4 @@
--- `spans::words::front` meets its contract: the operand is the block's, and its length fits 32
--- bits. Assumes nothing.
-use Prim.Native.Nat.{_-_}
-use mir.Syntax.{w32}
-use mir.ValLaws.{toZ-pos, toZ-ofZ}
+-- `spans::words::front` meets its contract: the operand is the block's. Assumes nothing.
 use native.Mathlib.Omega.{arith}
 use Rattle.unit.specs.Operand.{inWords}
 use Rattle.spans.proofs.Indexes.{front-called}
@@ -30,28 +26,25 @@ part-padded-words-end c = omega (arith, c .min .ensures)
 padded-words-requires : tie.Need-padded-words-requires
 padded-words-requires c κs = tt
 
-sub-pcmpestri : tie.Need-sub-pcmpestri
-sub-pcmpestri c = omega (arith, c .before .before .min .ensures)
+sub-pcmpestri-usize : tie.Need-sub-pcmpestri-usize
+sub-pcmpestri-usize c = omega (arith, c .before .before .min .ensures)
 
-cast-pcmpestri : tie.Need-cast-pcmpestri
-cast-pcmpestri c = record { sfits = omega (arith, c .before .before .min .ensures) }
-
-pcmpestri-requires : tie.Need-pcmpestri-requires
-pcmpestri-requires c κs = tt
+pcmpestri-usize-requires : tie.Need-pcmpestri-usize-requires
+pcmpestri-usize-requires c κs = tt
 
 cast-result : tie.Need-cast-result
 cast-result c = omega arith
 
 returns : tie.Need-returns
 returns c =
-    let u = c .before .pcmpestri in
+    let u = c .before .pcmpestri-usize in
     let o = c .before .before .padded-words in
     let at-end = c .before .before .before .before in
     let e = at-end .min in
     let s = at-end .before .before in
     let a = s .args in
-    front-called inWords (a .text .now) (a .list) (o .result) (a .i) (e .result) (a .control) (a .l) _ _ (u .result)
-    (e .ensures) (omega arith) (toZ-ofZ w32 (a .l) (s .fits .l)) (o .ensures) (toZ-pos w32 (e .result - a .i) (omega (arith, e .ensures))) (u .ensures)
+    front-called inWords (a .text .now) (a .list) (o .result) (a .i) (e .result) (a .control) (a .l) (u .result)
+    (e .ensures) (omega arith) (o .ensures) (u .ensures)
 
 pub front-spec : {M : Type 1} → statement M
 front-spec =
@@ -64,8 +57,7 @@ front-spec =
     part-padded-words-start
     part-padded-words-end
     padded-words-requires
-    sub-pcmpestri
-    cast-pcmpestri
-    pcmpestri-requires
+    sub-pcmpestri-usize
+    pcmpestri-usize-requires
     cast-result
     returns)

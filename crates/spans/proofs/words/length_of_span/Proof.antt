@@ -1,9 +1,8 @@
 -- `spans::words::length_of_span` meets its contract. The invariant: every element before i belongs.
 -- Assumes nothing.
 use Prim.Native.Nat.{_-_, _≤_}
+use mathlib.Core.Path.{refl}
 use lib.ListN.{length}
-use mir.Syntax.{w32}
-use mir.ValLaws.{toZ-pos}
 use native.Mathlib.Omega.{arith}
 use Rattle.unit.specs.Operand.{inWords}
 use Rattle.spans.proofs.Indexes.{control-small, ClearTo, clear-to-start, span-ends, span-goes-on, span-whole}
@@ -11,16 +10,13 @@ use Rattle.spans.proofs.words.length_of_span.Statement.{statement}
 use Rattle.spans.proofs.words.length_of_span.Tie as tie
 
 abbrev Inv-loop : tie.InvT-loop
-Inv-loop text list ranges signed operand l control i₀ i = (i ≤ length text) × ClearTo inWords ranges signed list text i
+Inv-loop text list ranges signed operand control i₀ i = (i ≤ length text) × ClearTo inWords ranges signed list text i
 
 abbrev μ-loop : tie.MeasureT-loop
-μ-loop text list ranges signed operand l control i₀ i = length text - i
+μ-loop text list ranges signed operand control i₀ i = length text - i
 
 padded-words-requires : tie.Need-padded-words-requires Inv-loop μ-loop
 padded-words-requires c κs = tt
-
-cast-l : tie.Need-cast-l Inv-loop μ-loop
-cast-l c = record { sfits = omega arith }
 
 span-control-requires : tie.Need-span-control-requires Inv-loop μ-loop
 span-control-requires c κs = tt
@@ -49,7 +45,7 @@ returns c =
     let a = at-loop .before .before .before .before .before .args in
     let k = c .before .front in
     span-ends inWords (a .ranges) (a .signed) (a .list .now) (a .text .now) (at-loop .loop .i) (k .result) _ (o .result) _
-    (o .ensures) (toZ-pos w32 (length (a .list .now)) (omega arith)) (omega (arith, v .ensures)) (omega arith) (omega arith) (at-loop .loop .inv .1) (k .ensures) (omega arith)
+    (o .ensures) refl (omega (arith, v .ensures)) (omega arith) (omega arith) (at-loop .loop .inv .1) (k .ensures) (omega arith)
 
 add-i : tie.Need-add-i Inv-loop μ-loop
 add-i c = omega arith
@@ -65,7 +61,7 @@ loop-again c =
     let a = at-loop .before .before .before .before .before .args in
     let k = c .before .front in
     span-goes-on inWords (a .ranges) (a .signed) (a .list .now) (a .text .now) (at-loop .loop .i) (k .result) _ (o .result) _
-    (o .ensures) (toZ-pos w32 (length (a .list .now)) (omega arith)) (omega (arith, v .ensures)) (omega arith) (omega arith) (at-loop .loop .inv .1) (k .ensures) (omega arith)
+    (o .ensures) refl (omega (arith, v .ensures)) (omega arith) (omega arith) (at-loop .loop .inv .1) (k .ensures) (omega arith)
 
 returns-2 : tie.Need-returns-2 Inv-loop μ-loop
 returns-2 c =
@@ -80,7 +76,6 @@ length-of-span-spec =
     Inv-loop
     μ-loop
     padded-words-requires
-    cast-l
     span-control-requires
     add-control
     loop-holds
