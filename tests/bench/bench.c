@@ -5,8 +5,10 @@
 //   bench real ROUNDS        a line for each case: the real walk alone, for a run under an emulator
 //   bench stops ROUNDS       a line for each case: a stop at half the text beside one at its end
 //   bench growth ROUNDS      the proved search over texts of 64 KiB to 1 MiB elements
-//   bench unit ROUNDS        a line for each call and control: the model and the instruction
-//   bench real-unit ROUNDS   the instructions alone; controls that an emulator lacks are left out
+//   bench unit ROUNDS        a line for each call and control: the model and the instruction, the
+//                            explicit ones with REX.W
+//   bench real-unit ROUNDS   the instructions alone, without REX.W; controls that an emulator lacks
+//                            are left out
 //   bench entries ROUNDS     one compare at 0Ch and at 18h, block after block
 //
 // Times are the least of the rounds, in nanoseconds. In `search` each contender's matches are
@@ -63,7 +65,8 @@ static void make_register(uint8_t *text, size_t n) {
     }
 }
 
-// ---- the real walk: that of document 01, "The walk", with the processor's own instructions
+// ---- the real walk: that of document 01, "The walk", with the processor's own instructions. They
+// stand without REX.W: the lengths are 16 at most, and emulators lack the other form.
 
 static inline uint32_t refusal(const hx_cursor *c, size_t n, size_t m) {
     if (n > HX_LONGEST_TEXT) return HX_TEXT_REFUSED;
@@ -511,7 +514,7 @@ static void time_stops(int rounds) {
 
 typedef struct {
     uint8_t a[16], b[16];
-    int32_t l1, l2;
+    int64_t l1, l2;
 } block;
 
 static block blocks[BLOCKS];
@@ -524,25 +527,36 @@ static void make_blocks(void) {
             x->a[j] = (uint8_t)(draw(letters) + (letters == 26 ? 'A' : 0));
             x->b[j] = (uint8_t)(draw(letters) + (letters == 26 ? 'A' : 0));
         }
-        x->l1 = (int32_t)draw(18);
-        x->l2 = (int32_t)draw(18);
+        x->l1 = draw(18);
+        x->l2 = draw(18);
     }
 }
 
-// each call of the real unit with its answer and the four flags that intrinsics give, at a constant
-// control
-#define FLAGS(K, A, L1, B, L2) \
-    (uint32_t)(_mm_cmpestrc(A, L1, B, L2, K) | _mm_cmpestrz(A, L1, B, L2, K) << 6 | _mm_cmpestrs(A, L1, B, L2, K) << 7 | _mm_cmpestro(A, L1, B, L2, K) << 11)
-#define IFLAGS(K, A, B) (uint32_t)(_mm_cmpistrc(A, B, K) | _mm_cmpistrz(A, B, K) << 6 | _mm_cmpistrs(A, B, K) << 7 | _mm_cmpistro(A, B, K) << 11)
-#define LOADS __m128i a = _mm_loadu_si128((const __m128i *)x->a), b = _mm_loadu_si128((const __m128i *)x->b)
+// Each call of the real unit with its answer and the four flags that intrinsics give, at a constant
+// control: the explicit ones with REX.W, byte by byte, since there is no intrinsic; then without.
+enum { ESTRI, ESTRM, ISTRI, ISTRM, NARROW_ESTRI, NARROW_ESTRM };
+
+#define WIDE(OPCODE, K, OUTPUT)                                                                            \
+    __asm__(".byte 0x66, 0x48, 0x0f, 0x3a, " OPCODE ", 0xca, %c[k]"                                        \
+            : OUTPUT, "=@ccc"(c), "=@ccz"(z), "=@ccs"(s), "=@cco"(o)                                       \
+            : "a"(x->l1), "d"(x->l2), "x"(a), "x"(b), [k] "i"(K))
+#define WIDE_FLAGS (uint32_t)(c | z << 6 | s << 7 | o << 11)
+#define FLAGS(K) \
+    (uint32_t)(_mm_cmpestrc(a, l1, b, l2, K) | _mm_cmpestrz(a, l1, b, l2, K) << 6 | _mm_cmpestrs(a, l1, b, l2, K) << 7 | _mm_cmpestro(a, l1, b, l2, K) << 11)
+#define IFLAGS(K) (uint32_t)(_mm_cmpistrc(a, b, K) | _mm_cmpistrz(a, b, K) << 6 | _mm_cmpistrs(a, b, K) << 7 | _mm_cmpistro(a, b, K) << 11)
 #define REAL_UNIT(K)                                                                                       \
     static void real_##K(const block *x, int call, uint32_t *index, uint8_t *mask, uint32_t *flags) {      \
-        LOADS;                                                                                             \
+        register __m128i a __asm__("xmm1") = _mm_loadu_si128((const __m128i *)x->a);                       \
+        register __m128i b __asm__("xmm2") = _mm_loadu_si128((const __m128i *)x->b);                       \
+        int l1 = (int)x->l1, l2 = (int)x->l2, c, z, s, o;                                                  \
+        __m128i m;                                                                                         \
         switch (call) {                                                                                    \
-        case 0: *index = (uint32_t)_mm_cmpestri(a, x->l1, b, x->l2, K); *flags = FLAGS(K, a, x->l1, b, x->l2); break; \
-        case 1: _mm_storeu_si128((__m128i *)mask, _mm_cmpestrm(a, x->l1, b, x->l2, K)); *flags = FLAGS(K, a, x->l1, b, x->l2); break; \
-        case 2: *index = (uint32_t)_mm_cmpistri(a, b, K); *flags = IFLAGS(K, a, b); break;                 \
-        default: _mm_storeu_si128((__m128i *)mask, _mm_cmpistrm(a, b, K)); *flags = IFLAGS(K, a, b);       \
+        case ESTRI: WIDE("0x61", K, "=c"(*index)); *flags = WIDE_FLAGS; break;                             \
+        case ESTRM: WIDE("0x60", K, "=Yz"(m)); _mm_storeu_si128((__m128i *)mask, m); *flags = WIDE_FLAGS; break; \
+        case ISTRI: *index = (uint32_t)_mm_cmpistri(a, b, K); *flags = IFLAGS(K); break;                   \
+        case ISTRM: _mm_storeu_si128((__m128i *)mask, _mm_cmpistrm(a, b, K)); *flags = IFLAGS(K); break;   \
+        case NARROW_ESTRI: *index = (uint32_t)_mm_cmpestri(a, l1, b, l2, K); *flags = FLAGS(K); break;     \
+        default: _mm_storeu_si128((__m128i *)mask, _mm_cmpestrm(a, l1, b, l2, K)); *flags = FLAGS(K);      \
         }                                                                                                  \
     }
 #define SIXTEEN(M, D) M(D##0) M(D##1) M(D##2) M(D##3) M(D##4) M(D##5) M(D##6) M(D##7) M(D##8) M(D##9) M(D##a) M(D##b) M(D##c) M(D##d) M(D##e) M(D##f)
@@ -553,9 +567,9 @@ static void (*const real_unit[128])(const block *, int, uint32_t *, uint8_t *, u
 
 __attribute__((noinline)) static void proved_unit(const block *x, int call, uint8_t control, uint32_t *index, uint8_t *mask, uint32_t *flags) {
     switch (call) {
-    case 0: hx_pcmpestri(x->a, x->l1, x->b, x->l2, control, index, flags); break;
-    case 1: hx_pcmpestrm(x->a, x->l1, x->b, x->l2, control, mask, flags); break;
-    case 2: hx_pcmpistri(x->a, x->b, control, index, flags); break;
+    case ESTRI: hx_pcmpestri(x->a, x->l1, x->b, x->l2, control, index, flags); break;
+    case ESTRM: hx_pcmpestrm(x->a, x->l1, x->b, x->l2, control, mask, flags); break;
+    case ISTRI: hx_pcmpistri(x->a, x->b, control, index, flags); break;
     default: hx_pcmpistrm(x->a, x->b, control, mask, flags);
     }
 }
@@ -608,10 +622,11 @@ static void time_unit(int rounds, int both) {
     act.sa_handler = on_illegal;
     act.sa_flags = SA_NODEFER;
     sigaction(SIGILL, &act, NULL);
-    for (int call = 0; call < 4; call++)
+    for (int call = ESTRI; call <= ISTRM; call++)
         for (int control = 0; control < 128; control++) {
             double best[2] = {1e300, 1e300};
-            if (time_control(rounds, call, control, both, best)) printf("%d\t%d\t%.3f\t%.3f\n", call, control, both ? best[0] : 0.0, best[1]);
+            int form = both || call >= ISTRI ? call : call + NARROW_ESTRI;
+            if (time_control(rounds, form, control, both, best)) printf("%d\t%d\t%.3f\t%.3f\n", call, control, both ? best[0] : 0.0, best[1]);
         }
 }
 

@@ -454,14 +454,25 @@ static uint32_t draw_truth(void)
 
 /* ---- the unit ---- */
 
-static int32_t draw_length(const char *label)
+/* A length of 64 bits: at an edge of a block, of 32 bits or of 64; any number; or a small one, now
+ * and then with 2^32 taken off or added so often that only the low half is small. A length of 32
+ * bits is drawn as one, and widened by its value. */
+static int64_t draw_length(const char *label)
 {
     static const int32_t edges[] = {INT32_MIN, INT32_MIN + 1, INT32_MAX, -1, -7,  -8,   -9,    -15,
                                     -16,       -17,           16,        17, 256, -256, 65536, -65536};
-    int32_t length = one_in(3)   ? edges[below(COUNT(edges))]
-                     : one_in(8) ? (int32_t)(uint32_t)draw()
-                                 : (int32_t)below(19);
-    arg(label, (uint64_t)(int64_t)length);
+    static const int64_t ends[] = {INT64_MIN,   INT64_MIN + 1, INT64_MAX, INT64_MAX - 1, UINT32_MAX,
+                                   1ll << 32,   -(1ll << 32),  1ll << 31, -(1ll << 31) - 1};
+    int64_t length;
+    if (one_in(3))
+        length = edges[below(COUNT(edges))];
+    else if (one_in(6))
+        length = ends[below(COUNT(ends))];
+    else if (one_in(8))
+        length = (int64_t)draw();
+    else
+        length = (int64_t)below(19) + (one_in(6) ? (int64_t)(draw() << 32) : 0);
+    arg(label, (uint64_t)length);
     return length;
 }
 
@@ -483,9 +494,9 @@ static const uint8_t *draw_operand(place *p, int slot, const place *other)
     return p->at;
 }
 
-static uint32_t effective(int32_t length, uint32_t b)
+static uint32_t effective(int64_t length, uint32_t b)
 {
-    int64_t absolute = length < 0 ? -(int64_t)length : length;
+    uint64_t absolute = length < 0 ? 0 - (uint64_t)length : (uint64_t)length;
     return absolute < b ? (uint32_t)absolute : b;
 }
 
@@ -540,7 +551,7 @@ static void try_unit(bool is_explicit, bool is_mask)
     else
         begin(is_mask ? "hx_pcmpistrm" : "hx_pcmpistri");
     const uint8_t *operand1 = draw_operand(&o1, A, NULL), *operand2 = draw_operand(&o2, B, &o1);
-    int32_t length1 = is_explicit ? draw_length("length1") : 0, length2 = is_explicit ? draw_length("length2") : 0;
+    int64_t length1 = is_explicit ? draw_length("length1") : 0, length2 = is_explicit ? draw_length("length2") : 0;
     uint8_t control = draw_control();
     bool words = (control & 1) != 0;
     uint32_t b = words ? 8 : 16, *flags, *index = NULL;
@@ -596,7 +607,7 @@ static void try_loop_call(const char *name, uint32_t (*call)(const uint8_t *, si
     uint32_t alone = result;
     index = out(&i, C, 4, 4);
     flags = out(&f, D, 4, 4);
-    int32_t cut1 = lengths[0] < 16 ? (int32_t)lengths[0] : 16, cut2 = lengths[1] < 16 ? (int32_t)lengths[1] : 16;
+    int64_t cut1 = lengths[0] < 16 ? (int64_t)lengths[0] : 16, cut2 = lengths[1] < 16 ? (int64_t)lengths[1] : 16;
     CALL(hx_pcmpestri(operand1, cut1, operand2, cut2, control, index, flags));
     expect(result, 0);
     if (*index != alone)

@@ -45,7 +45,7 @@
 
 typedef struct block {
     uint8_t operand1[16], operand2[16];
-    int32_t length1, length2;
+    int64_t length1, length2;
 } block;
 
 typedef struct answer {
@@ -53,7 +53,7 @@ typedef struct answer {
     uint32_t flags, refusal;
 } answer;
 
-typedef uint32_t explicit_call(const uint8_t *, int32_t, const uint8_t *, int32_t, uint8_t, uint8_t *, uint32_t *);
+typedef uint32_t explicit_call(const uint8_t *, int64_t, const uint8_t *, int64_t, uint8_t, uint8_t *, uint32_t *);
 typedef uint32_t implicit_call(const uint8_t *, const uint8_t *, uint8_t, uint8_t *, uint32_t *);
 
 static size_t page_bytes;
@@ -87,7 +87,8 @@ static void put_zero(uint8_t *operand)
 
 static void make_blocks(void)
 {
-    static const int32_t edges[] = {0, 1, 7, 8, 9, 15, 16, 17, -1, -7, -8, -9, -15, -16, -17, INT32_MIN, INT32_MAX};
+    static const int64_t edges[] = {0,  1,  7,  8,   9,   15,  16,        17,        -1,       -7,
+                                    -8, -9, -15, -16, -17, INT32_MIN, INT32_MAX, INT64_MIN, INT64_MAX};
     for (size_t i = 0; i < BLOCKS; i++) {
         uint64_t letters = i % 4 == 0 ? 256 : i % 4 == 1 ? 2 : i % 4 == 2 ? 3 : 26, least = i % 4 == 3 ? 'A' : 0;
         for (size_t j = 0; j < 16; j++) {
@@ -103,7 +104,7 @@ static void make_blocks(void)
 
 /* ---- calls that take more, for the selftest, and calls that do nothing ---- */
 
-static uint32_t no_explicit(const uint8_t *a, int32_t l1, const uint8_t *b, int32_t l2, uint8_t control, uint8_t *mask,
+static uint32_t no_explicit(const uint8_t *a, int64_t l1, const uint8_t *b, int64_t l2, uint8_t control, uint8_t *mask,
                             uint32_t *flags)
 {
     (void)a, (void)l1, (void)b, (void)l2, (void)control, (void)mask, (void)flags;
@@ -117,7 +118,7 @@ static uint32_t no_implicit(const uint8_t *a, const uint8_t *b, uint8_t control,
 }
 
 /* The mask is made in a scratch copy of sixteen bytes, and then copied. */
-static uint32_t scratch_explicit(const uint8_t *a, int32_t l1, const uint8_t *b, int32_t l2, uint8_t control,
+static uint32_t scratch_explicit(const uint8_t *a, int64_t l1, const uint8_t *b, int64_t l2, uint8_t control,
                                  uint8_t *mask, uint32_t *flags)
 {
     uint8_t scratch[16];

@@ -25,9 +25,16 @@ static int wrong(int number)
     type __wrap_##name parameters
 
 WRAPPED(uint32_t, hx_pcmpestri,
-        (const uint8_t *operand1, int32_t length1, const uint8_t *operand2, int32_t length2, uint8_t control,
+        (const uint8_t *operand1, int64_t length1, const uint8_t *operand2, int64_t length2, uint8_t control,
          uint32_t *index, uint32_t *flags))
 {
+    if (wrong(82)) { /* a length is cut to its low 32 bits */
+        length1 = (int32_t)length1;
+        length2 = (int32_t)length2;
+    }
+    /* a length of 32 bits is widened without its sign */
+    if (wrong(83) && length1 == (int32_t)length1)
+        length1 = (uint32_t)length1;
     uint32_t r = __real_hx_pcmpestri(operand1, length1, operand2, length2, control, index, flags);
     if (wrong(1)) /* reads behind operand 1 */
         sink = operand1[16];
@@ -50,9 +57,16 @@ WRAPPED(uint32_t, hx_pcmpistri,
 }
 
 WRAPPED(uint32_t, hx_pcmpestrm,
-        (const uint8_t *operand1, int32_t length1, const uint8_t *operand2, int32_t length2, uint8_t control,
+        (const uint8_t *operand1, int64_t length1, const uint8_t *operand2, int64_t length2, uint8_t control,
          uint8_t *mask, uint32_t *flags))
 {
+    /* a length of 32 bits is widened without its sign */
+    if (wrong(84) && length2 == (int32_t)length2)
+        length2 = (uint32_t)length2;
+    if (wrong(85) && length1 == INT64_MIN) /* the least length stays negative, and counts as none */
+        length1 = 0;
+    if (wrong(86)) /* a length is cut to its low 32 bits */
+        length2 = (int32_t)length2;
     uint32_t r = __real_hx_pcmpestrm(operand1, length1, operand2, length2, control, mask, flags);
     if (wrong(6)) /* writes behind the mask */
         mask[16] = (uint8_t)~mask[16];
