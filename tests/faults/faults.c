@@ -461,8 +461,8 @@ static int64_t draw_length(const char *label)
 {
     static const int32_t edges[] = {INT32_MIN, INT32_MIN + 1, INT32_MAX, -1, -7,  -8,   -9,    -15,
                                     -16,       -17,           16,        17, 256, -256, 65536, -65536};
-    static const int64_t ends[] = {INT64_MIN,   INT64_MIN + 1, INT64_MAX, INT64_MAX - 1, UINT32_MAX,
-                                   1ll << 32,   -(1ll << 32),  1ll << 31, -(1ll << 31) - 1};
+    static const int64_t ends[] = {INT64_MIN, INT64_MIN + 1, INT64_MAX, INT64_MAX - 1,   UINT32_MAX,
+                                   1ll << 32, -(1ll << 32),  1ll << 31, -(1ll << 31) - 1};
     int64_t length;
     if (one_in(3))
         length = edges[below(COUNT(edges))];

@@ -87,7 +87,7 @@ static void put_zero(uint8_t *operand)
 
 static void make_blocks(void)
 {
-    static const int64_t edges[] = {0,  1,  7,  8,   9,   15,  16,        17,        -1,       -7,
+    static const int64_t edges[] = {0,  1,  7,   8,   9,   15,        16,        17,        -1,       -7,
                                     -8, -9, -15, -16, -17, INT32_MIN, INT32_MAX, INT64_MIN, INT64_MAX};
     for (size_t i = 0; i < BLOCKS; i++) {
         uint64_t letters = i % 4 == 0 ? 256 : i % 4 == 1 ? 2 : i % 4 == 2 ? 3 : 26, least = i % 4 == 3 ? 'A' : 0;
