@@ -1,7 +1,7 @@
 -- The order of two texts is an order: exchanged texts exchange -1 and 1, what is not above goes on
 -- from text to text, and 0 stands for equal texts alone. The texts' elements are those of a width,
 -- so that two of them stand for one number only where they are equal. Assumes nothing.
-use Prim.Native.Nat.{ℕ, suc, _-_, _^_, _≤_, _<_, min}
+use Prim.Native.Nat.{ℕ, zero, suc, _+_, _-_, _^_, _≤_, _<_, min}
 use mathlib.Core.Path.{_≡_, refl, sym, ap, _∙_}
 use mathlib.Core.Bool.{Bool, true, false, cond}
 use mathlib.Core.List.{List, [], _∷_}
@@ -227,6 +227,31 @@ is-order words signed =
     let value : ℕ → ℤ = valueOf words signed in
     let size : ℕ = 2 ^ bitsOf words in
     record { antisymmetric = exchanged value; transitive = handed-on value size (values-apart words signed); equal-gives-zero = itself value; zero-only-for-equal = zero-equal value size (values-apart words signed) }
+
+-- ---- the unsigned order, of elements of any size
+
+-- a number above each element
+abbrev bound : List ℕ → ℕ
+bound [] = 0
+bound (x ∷ xs) = suc (x + bound xs)
+
+below-bound : (x : List ℕ) (i : ℕ) → i < length x → getD x i 0 < bound x
+below-bound [] i h = absurd (omega arith)
+below-bound (x ∷ xs) zero h = omega arith
+below-bound (x ∷ xs) (suc i) h = omega (arith, below-bound xs i (omega arith))
+
+pub unsigned-transitive : (words : Bool) (x y z : List ℕ)
+    → leZ (order words false x y) (pos 0) ≡ true → leZ (order words false y z) (pos 0) ≡ true → leZ (order words false x z) (pos 0) ≡ true
+unfolding order
+unsigned-transitive words x y z =
+    handed-on (valueOf words false) (bound x + (bound y + bound z)) (λ a b h k. same-pos a b) x y z
+    (λ i h. omega (arith, below-bound x i h)) (λ i h. omega (arith, below-bound y i h)) (λ i h. omega (arith, below-bound z i h))
+
+pub unsigned-zero-equal : (words : Bool) (x y : List ℕ) → order words false x y ≡ pos 0 → x ≡ y
+unfolding order
+unsigned-zero-equal words x y =
+    zero-equal (valueOf words false) (bound x + bound y) (λ a b h k. same-pos a b) x y
+    (λ i h. omega (arith, below-bound x i h)) (λ i h. omega (arith, below-bound y i h))
 
 -- ---- the order from a place, for the code
 
