@@ -1,0 +1,4 @@
+pub mod Tests
+pub mod Fills
+pub mod Compares
+pub mod Order
