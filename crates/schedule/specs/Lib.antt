@@ -1,0 +1,4 @@
+-- The day, what it must be, and worked days. `Places` is for private contracts.
+pub mod Days
+pub mod Schedules
+pub mod Places
