@@ -3,7 +3,7 @@
 use Prim.Native.Nat.{ℕ, zero, suc, _+_, _<_}
 use mathlib.Core.Path.{_≡_, refl, sym, ap, subst, _∙_}
 use mathlib.Core.Bool.{Bool, true, false, cond}
-use mathlib.Core.List.{List}
+use mathlib.Core.List.{List, map}
 use lib.Dec.{eqb}
 use lib.IntN.{ℤ, pos}
 use lib.ListN.{length}
@@ -22,9 +22,14 @@ use Rattle.search.specs.declared.Filled.{Filled}
 use Rattle.search.specs.Fills.{Fill, FillAnswered, FillSaid, fillSaid, saidAt, stopped, stoppedAfter}
 use Rattle.orders.specs.declared.OrderAnswer.{OrderAnswer}
 use Rattle.orders.specs.Orders.{isSecond, order, orderAnswer, orderRefusal}
+use Rattle.entries.specs.declared.Entry.{Entry}
+use Rattle.layout.specs.Layout.{rowOf}
+use Rattle.schedule.specs.declared.DayAnswer.{DayAnswer}
+use Rattle.schedule.specs.Days.{dayAnswer}
+use Rattle.schedule.proofs.Answers.{many-refused}
 use Rattle.report.specs.declared.ReportAnswer.{ReportAnswer}
 use Rattle.report.specs.Report.{linesOf, refusalOf, Reported}
-use Rattle.capi.specs.Crossing.{countAfter, eflags, FilledGiven, FillGiven, fillCursorAfter, fillStatus, IndexGiven, LesserGiven, MaskGiven, NextGiven, NumberGiven, numbersOf, OrderGiven, ReportGiven, unlessRefused}
+use Rattle.capi.specs.Crossing.{countAfter, DayGiven, eflags, FilledGiven, FillGiven, fillCursorAfter, fillStatus, IndexGiven, LesserGiven, MaskGiven, NextGiven, NumberGiven, numbersOf, OrderGiven, ReportGiven, unlessRefused}
 
 pub written : {A : Type 0} (number : ℕ) (new old : A) → number ≡ 0 → new ≡ unlessRefused number new old
 written number new old e = sym (ap (λ (t : Bool). cond t new old) (eq-eqb number 0 e))
@@ -126,6 +131,25 @@ lesser-written a old new e made = record { refusal = refl; which-after = made �
 
 pub lesser-kept : (a : OrderAnswer) (old : ℕ) → (a .refusal ≡ 0 → ⊥) → LesserGiven a old (a .refusal) old
 lesser-kept a old ne = record { refusal = refl; which-after = kept (a .refusal) (cond (ltZ (pos 0) (a .order)) 1 0) old ne }
+
+-- ---- the day
+
+pub day-written : (a : DayAnswer) (rows rows' : List (List ℕ)) (count : ℕ) → a .refusal ≡ 0 → rows' ≡ map rowOf (a .day .entries)
+    → DayGiven a rows count (a .refusal) rows' (a .day .count)
+day-written a rows rows' count e made =
+    record { number = refl; day-after = made ∙ written (a .refusal) (map rowOf (a .day .entries)) rows e; count-after = written (a .refusal) (a .day .count) count e }
+
+pub day-kept : (a : DayAnswer) (rows : List (List ℕ)) (count : ℕ) → (a .refusal ≡ 0 → ⊥) → DayGiven a rows count (a .refusal) rows count
+day-kept a rows count ne =
+    record { number = refl; day-after = kept (a .refusal) (map rowOf (a .day .entries)) rows ne; count-after = kept (a .refusal) (a .day .count) count ne }
+
+-- more than 200 entries, whatever they are
+pub too-many-kept : (es : List Entry) (n : ℕ) (rows : List (List ℕ)) (count : ℕ) → 200 < n → DayGiven (dayAnswer es n) rows count 32 rows count
+too-many-kept es n rows count h =
+    let e : dayAnswer es n .refusal ≡ 32 = many-refused es n h in
+    subst (λ (k : ℕ). DayGiven (dayAnswer es n) rows count k rows count) e (day-kept (dayAnswer es n) rows count (λ z. omega arith))
+
+-- ---- the report
 
 -- the report, from what `report` answered and the number handed on
 pub report-given : (input page page' : List ℕ) (t : ReportAnswer) (old r new : ℕ) → Reported input page page' t → NumberGiven (t .refusal) (t .written) old r new

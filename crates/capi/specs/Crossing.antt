@@ -3,7 +3,7 @@
 use Prim.Native.Nat.{ℕ, _+_}
 use mathlib.Core.Path.{_≡_}
 use mathlib.Core.Bool.{Bool, cond, not}
-use mathlib.Core.List.{List, [], _∷_, _++_}
+use mathlib.Core.List.{List, [], _∷_, _++_, map}
 use lib.Dec.{eqb}
 use lib.IntN.{ℤ, pos}
 use lib.Signed.{ltZ}
@@ -19,6 +19,8 @@ use Rattle.search.specs.Fills.{Fill, FillSaid, full, absent as noMore, stopped,
 use Rattle.search.specs.Calls.{Said, found, absent, refused, said, cursorOf as nextCursor}
 use Rattle.report.specs.Report.{linesOf, refusalOf as reportRefusal}
 use Rattle.orders.specs.declared.OrderAnswer.{OrderAnswer}
+use Rattle.layout.specs.Layout.{rowOf}
+use Rattle.schedule.specs.declared.DayAnswer.{DayAnswer}
 
 -- what stands behind a pointer after a call with this refusal: 0 writes the new value, and any
 -- other number leaves the old one
@@ -144,6 +146,16 @@ pub record OrderGiven (a : OrderAnswer) (old : ℤ) (r : ℕ) (new : ℤ) : Type
 pub record LesserGiven (a : OrderAnswer) (old r new : ℕ) : Type 0 where
   pub refusal : r ≡ a .refusal
   pub which-after : new ≡ unlessRefused (a .refusal) (cond (ltZ (pos 0) (a .order)) 1 0) old
+
+-- ---- the day
+
+-- a day: the answer, the rows and the count before the call; what it returns, the rows and the
+-- count after it
+pub record DayGiven (a : DayAnswer) (rows : List (List ℕ)) (count r : ℕ) (rows' : List (List ℕ))
+    (count' : ℕ) : Type 0 where
+  pub number : r ≡ a .refusal
+  pub day-after : rows' ≡ unlessRefused (a .refusal) (map rowOf (a .day .entries)) rows
+  pub count-after : count' ≡ unlessRefused (a .refusal) (a .day .count) count
 
 -- ---- the report
 

@@ -1,5 +1,5 @@
-// The C interface: the calls of `pcmpstr`, `search`, `spans`, `orders`, `decimal` and `report`
-// under names that begin with `hx_`, for C and Rust to link (include/hirtxonda.h).
+// The C interface: the calls of `pcmpstr`, `search`, `spans`, `orders`, `schedule`, `decimal` and
+// `report` under names that begin with `hx_`, for C and Rust to link (include/hirtxonda.h).
 //
 // A call that may be refused returns 0, or the number that refuses it. Next match returns 0 or 256,
 // for absent; a fill 257 for full, 256, or the number that refused or stopped it, and never 0. The
@@ -7,6 +7,7 @@
 // Operands and masks are sixteen bytes behind a pointer, texts a pointer and a length. What crosses
 // is defined in specs/Crossing.antt. This file has what several calls share.
 mod columns;
+mod day;
 mod instructions;
 mod order;
 mod span;
