@@ -1,6 +1,6 @@
 -- The order of entries: it is strict and goes on from entry to entry, and only entries of one
--- minute, name and number stand at one place in it. First by one order, then by another, is shown to
--- be such an order once, and used twice. Assumes nothing.
+-- minute, name and number stand at one place in it. First by one order, then by another, is shown
+-- to be such an order once, and used twice. Assumes nothing.
 use Prim.Native.Nat.{ℕ, zero, suc}
 use mathlib.Core.Path.{_≡_, refl, sym, ap, _∙_}
 use mathlib.Core.Bool.{Bool, true, false}
@@ -11,7 +11,7 @@ use lib.Signed.{ltZ, leZ}
 use borrow.Author.Tests.{lt-ltb, le-ltb, lt-leb, ltb-true, ltb-false}
 use Rattle.bits.proofs.Below.{by-test}
 use Rattle.unit.specs.Operand.{inBytes}
-use Rattle.orders.specs.Orders.{order, IsOrder}
+use Rattle.orders.specs.Orders.{order}
 use Rattle.orders.proofs.Order.{is-order, unsigned-transitive, unsigned-zero-equal}
 use Rattle.entries.specs.declared.Entry.{Entry}
 use Rattle.entries.specs.Entries.{precedes, decided, nameOf, unsigned, IsTotal}

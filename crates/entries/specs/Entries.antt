@@ -75,8 +75,8 @@ precedes a b =
     (decidedBy (order inBytes unsigned (nameOf a) (nameOf b)) (ltb (a .number) (b .number)))
 
 -- What the order must be: no entry comes before itself, what comes before goes on from entry to
--- entry, and of two entries one comes before the other, unless minute, name and number are the same.
--- proofs/Order.antt shows it.
+-- entry, and of two entries one comes before the other, unless minute, name and number are the
+-- same. proofs/Order.antt shows it.
 pub record IsTotal : Type 0 where
   pub irreflexive : (a : Entry) → precedes a a ≡ false
   pub transitive : (a b c : Entry) → precedes a b ≡ true → precedes b c ≡ true

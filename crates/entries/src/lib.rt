@@ -17,7 +17,7 @@ pub const MOST_ENTRIES: usize = 200;
 
 pub const LAST_MINUTE: u16 = 1439;
 
-pub const LONGEST_NAME: u16 = 32;
+pub const LONGEST_NAME: usize = 32;
 
 // Refusal number 32 of document 02: more than 200 entries. Number 33: an entry with a minute above
 // 1,439, or with a name of more than 32 bytes.
@@ -31,7 +31,7 @@ pub struct Entry {
     pub number: u32,
     pub minute: u16,
     pub length: u16,
-    pub name: [u8; 32],
+    pub name: [u8; LONGEST_NAME],
 }
 
 // A byte that stands at a place below the length, else zero.
@@ -42,12 +42,12 @@ fn kept(byte: u8, at: usize, length: usize) -> u8
 }
 
 // A name with zeros past its length.
-fn cleared_name(name: [u8; 32], length: usize) -> [u8; 32]
+fn cleared_name(name: [u8; LONGEST_NAME], length: usize) -> [u8; LONGEST_NAME]
     ensures { λ r. ⌜ r ≡ clearedName name length ⌝ }
 {
-    let mut cleared = [0u8; 32];
+    let mut cleared = [0u8; LONGEST_NAME];
     let mut i = 0;
-    while i < 32 {
+    while i < LONGEST_NAME {
         cleared[i] = kept(name[i], i, length);
         i += 1;
     }
@@ -55,11 +55,11 @@ fn cleared_name(name: [u8; 32], length: usize) -> [u8; 32]
 }
 
 // The order of two names, of n and m bytes.
-fn name_order(x: [u8; 32], n: usize, y: [u8; 32], m: usize) -> i32
+fn name_order(x: [u8; LONGEST_NAME], n: usize, y: [u8; LONGEST_NAME], m: usize) -> i32
     ensures { λ r. ⌜ r ≡ order inBytes unsigned (take n x) (take m y) ⌝ }
 {
-    let e = bits::min(n, 32);
-    let f = bits::min(m, 32);
+    let e = bits::min(n, LONGEST_NAME);
+    let f = bits::min(m, LONGEST_NAME);
     let answer = orders::bytes::compare(&x[..e], &y[..f], false);
     answer.order
 }
@@ -69,7 +69,7 @@ impl Entry {
     pub fn empty() -> Entry
         ensures { λ r. ⌜ r ≡ emptyEntry ⌝ }
     {
-        let name = [0u8; 32];
+        let name = [0u8; LONGEST_NAME];
         Entry {
             number: 0,
             minute: 0,
@@ -85,7 +85,7 @@ impl Entry {
         if self.minute > LAST_MINUTE {
             return true;
         }
-        self.length > LONGEST_NAME
+        self.length as usize > LONGEST_NAME
     }
 
     // The entry with its name bytes past the length zero.
@@ -133,13 +133,13 @@ pub fn form_refusal(entries: [Entry; MOST_ENTRIES], count: usize) -> u32
     if count > MOST_ENTRIES {
         return COUNT_REFUSED;
     }
-    let mut i = 0;
-    while i < count {
-        let e = entries[i];
+    let mut place = 0;
+    while place < count {
+        let e = entries[place];
         if e.is_bad() {
             return ENTRY_REFUSED;
         }
-        i += 1;
+        place += 1;
     }
     0
 }

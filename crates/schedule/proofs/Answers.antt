@@ -1,7 +1,7 @@
 -- The numbers and the answers of `day_of`, refused and accepted. Assumes nothing.
 use Prim.Native.Nat.{ℕ, _≤_, _<_}
-use mathlib.Core.Path.{_≡_, refl, sym, ap, _∙_}
-use mathlib.Core.Bool.{Bool, true, false}
+use mathlib.Core.Path.{_≡_, sym, ap, _∙_}
+use mathlib.Core.Bool.{true, false}
 use mathlib.Core.List.{List}
 use native.Mathlib.Omega.{arith}
 use lib.ListN.{length, getD, take}
@@ -45,6 +45,13 @@ module _ (es : List Entry) (n : ℕ) where
 
   pub accepted-count : dayRefusal es n ≡ 0 → n ≤ 200
   accepted-count z = form-count (accepted-form z)
+
+  -- a count above 200, whatever the entries are
+  pub many-refused : 200 < n → dayAnswer es n .refusal ≡ 32
+  unfolding dayAnswer
+  many-refused h =
+      let f : formRefusal es n ≡ 32 = too-many es n h in
+      refused-by-form (omega arith) ∙ f
 
   -- ---- the cleared entries
 

@@ -1,7 +1,7 @@
 -- The days of accepted entries are what they must be (specs/Schedules.antt). Assumes nothing.
-use Prim.Native.Nat.{ℕ, _-_, _≤_, _<_}
+use Prim.Native.Nat.{ℕ, _-_, _<_}
 use mathlib.Core.Path.{_≡_, refl, sym, ap, _∙_}
-use mathlib.Core.Bool.{Bool, true, false}
+use mathlib.Core.Bool.{Bool, false}
 use mathlib.Core.List.{List, []}
 use native.Mathlib.Omega.{arith}
 use lib.Dec.{eqb}
@@ -15,7 +15,6 @@ use Rattle.entries.specs.declared.Entry.{Entry}
 use Rattle.entries.specs.Entries.{precedes, noEntry, emptyEntry, clearedEntry, filled}
 use Rattle.entries.proofs.Order.{clash, tied}
 use Rattle.entries.proofs.Tests.{any-at}
-use Rattle.schedule.specs.declared.Day.{Day}
 use Rattle.schedule.specs.Days.{clearedFront, inserted, numberTwice, dayOf, dayAnswer}
 use Rattle.schedule.specs.Schedules.{Rearranged, Sorted, Accepted, IsDayOf, IsSchedule}
 use Rattle.schedule.proofs.Answers.{accepted-once, front-long}

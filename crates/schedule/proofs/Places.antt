@@ -2,14 +2,15 @@
 use Prim.Native.Nat.{ℕ, zero, suc, _+_, _≤_, _<_}
 use mathlib.Core.Path.{_≡_, refl, sym, ap, _∙_}
 use mathlib.Core.Bool.{Bool, true, false}
-use mathlib.Core.List.{List, [], _∷_, _++_, map, map-append}
+use mathlib.Core.List.{List, [], _∷_, _++_}
 use native.Mathlib.Omega.{arith}
 use lib.ListN.{length, getD, take, drop, length-map}
-use lib.Seq.{length-take-le, getD-take, take-suc, take-take}
+use lib.Seq.{length-take-le, getD-take, take-take}
 use Rattle.bits.specs.Bits.{tabulate}
 use Rattle.bits.proofs.Below.{by-order}
 use Rattle.entries.specs.declared.Entry.{Entry}
 use Rattle.entries.specs.Entries.{precedes, noEntry}
+use Rattle.entries.proofs.Fills.{table-front}
 use Rattle.schedule.specs.Days.{insert, insertAll, inserted}
 use Rattle.schedule.specs.Places.{entriesAt, Places, no-place, and-place}
 use Rattle.schedule.proofs.Lists.{take-more}
@@ -54,10 +55,8 @@ entries-at es (k ∷ ks) (suc i) d h = entries-at es ks i d (omega arith)
 
 -- the entries at the first n places, one by one
 pub entries-table : (es : List Entry) (ks : List ℕ) (n : ℕ) → n ≤ length ks → tabulate n (λ i. getD es (getD ks i 0) noEntry) ≡ entriesAt es (take n ks)
-unfolding tabulate entriesAt
-entries-table es ks zero h = refl
-entries-table es ks (suc n) h =
-    rw (take-suc ks n 0 (omega arith), map-append, entries-table es ks n (omega arith))
+unfolding entriesAt
+entries-table es ks n h = table-front (λ k. getD es k noEntry) n ks 0 h
 
 entries-put : (es : List Entry) (ks : List ℕ) (p v : ℕ) → entriesAt es (take p ks ++ v ∷ drop p ks) ≡ take p (entriesAt es ks) ++ getD es v noEntry ∷ drop p (entriesAt es ks)
 unfolding entriesAt

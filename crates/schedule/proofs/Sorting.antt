@@ -9,7 +9,7 @@ use lib.ListN.{length, getD, take, drop}
 use Rattle.bits.proofs.Below.{by-test}
 use Rattle.entries.specs.declared.Entry.{Entry}
 use Rattle.entries.specs.Entries.{noEntry, precedes}
-use Rattle.entries.proofs.Order.{Weak, precedes-weak, tied, clash}
+use Rattle.entries.proofs.Order.{precedes-weak, tied, clash}
 use Rattle.schedule.specs.Days.{insert, insertAll}
 use Rattle.schedule.specs.Schedules.{Rearranged, none, keep, swap, then}
 
@@ -151,7 +151,8 @@ apart-at (beside o a) (suc i) (suc j) h k = apart-at a i j (omega arith) (omega 
 
 -- ---- one day
 
--- One of two entries with unlike numbers comes before the other, so they can go in either way round.
+-- One of two entries with unlike numbers comes before the other, so they can go in either way
+-- round.
 module _ (x y : Entry) (o : Unlike x y) where
   -- both go to the front
   both-first : (l : List Entry) → insert x l ≡ x ∷ l → insert y l ≡ y ∷ l → insert x (y ∷ l) ≡ insert y (x ∷ l)

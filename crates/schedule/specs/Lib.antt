@@ -1,4 +1,5 @@
--- The day, what it must be, and worked days. `Places` is for private contracts.
+-- The day, what days must be, and worked days. `Places` is for private contracts.
 pub mod Days
 pub mod Schedules
 pub mod Places
+pub mod Specimens

@@ -1,6 +1,7 @@
 -- What a day must be, apart from any way of sorting (document 02 [5]): its entries are sorted and a
 -- rearrangement of the cleared ones, with zeros past the count; and entries that are rearranged
--- make the same day. proofs/Laws.antt shows it of `dayAnswer`, which the contract of `day_of` names.
+-- make the same day. proofs/Laws.antt shows it of `dayAnswer`, which the contract of `day_of`
+-- names.
 use Prim.Native.Nat.{ℕ, _-_, _<_}
 use mathlib.Core.Path.{_≡_}
 use mathlib.Core.Bool.{true, false}

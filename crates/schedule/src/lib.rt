@@ -9,7 +9,7 @@ ghost use mathlib.Core.List.{_∷_, _++_};
 ghost use lib.ListN.{drop, getD, length, take};
 ghost use lib.Dec.{eqb};
 ghost use Rattle.bits.specs.Bits.{anyBelow, tabulate};
-ghost use Rattle.entries.specs.Entries.{filled, noEntry};
+ghost use Rattle.entries.specs.Entries.{filled, mostEntries, noEntry};
 ghost use Rattle.schedule.specs.Days.{clearedFront, dayAnswer, dayRefusal, emptyDay, inserted, numberTwice};
 ghost use Rattle.schedule.specs.Places.{entriesAt, Places};
 
@@ -40,7 +40,7 @@ fn empty_day() -> Day
 
 // The entry numbers, side by side.
 fn numbers_of(entries: [Entry; entries::MOST_ENTRIES]) -> [u32; entries::MOST_ENTRIES]
-    ensures { λ r. ⌜ r ≡ tabulate 200 (λ i. getD entries i noEntry .number) ⌝ }
+    ensures { λ r. ⌜ r ≡ tabulate mostEntries (λ i. getD entries i noEntry .number) ⌝ }
 {
     let mut numbers = [0u32; entries::MOST_ENTRIES];
     let mut i = 0;
@@ -70,7 +70,7 @@ fn stands_in(list: &[u32], number: u32) -> bool
 
 // Some entry number within the count stands twice.
 fn number_twice(entries: [Entry; entries::MOST_ENTRIES], count: usize) -> bool
-    requires { ⌜ count ≤ 200 ⌝ }
+    requires { ⌜ count ≤ mostEntries ⌝ }
     ensures { λ r. ⌜ r ≡ numberTwice entries count ⌝ }
 {
     let numbers = numbers_of(entries);
@@ -103,7 +103,7 @@ fn refusal(entries: [Entry; entries::MOST_ENTRIES], count: usize) -> u32
 
 // The entries within the count, cleared, and empty places after them.
 fn cleared(entries: [Entry; entries::MOST_ENTRIES], count: usize) -> [Entry; entries::MOST_ENTRIES]
-    requires { ⌜ count ≤ 200 ⌝ }
+    requires { ⌜ count ≤ mostEntries ⌝ }
     ensures { λ r. ⌜ r ≡ filled (clearedFront entries count) ⌝ }
 {
     let mut out = [Entry::empty(); entries::MOST_ENTRIES];
@@ -125,8 +125,8 @@ fn wide(x: u8) -> usize
 
 // Puts a place into a list of n places, at p; those from p on move up by one.
 fn put(places: &mut [u8; entries::MOST_ENTRIES], p: usize, n: usize, place: u8)
-    requires { ⌜ (p ≤ n) × (n < 200) × (length (now places) ≡ 200) ⌝ }
-    ensures { λ _. ⌜ (length (now (places .exit)) ≡ 200) × (take (n + 1) (now (places .exit))
+    requires { ⌜ (p ≤ n) × (n < mostEntries) × (length (now places) ≡ mostEntries) ⌝ }
+    ensures { λ _. ⌜ (length (now (places .exit)) ≡ mostEntries) × (take (n + 1) (now (places .exit))
         ≡ take p (now (places .entry)) ++ place ∷ drop p (take n (now (places .entry)))) ⌝ }
 {
     let mut j = n;
@@ -139,7 +139,7 @@ fn put(places: &mut [u8; entries::MOST_ENTRIES], p: usize, n: usize, place: u8)
 
 // The places of the entries within the count, in the order of the day.
 fn places_of(entries: [Entry; entries::MOST_ENTRIES], count: usize) -> [u8; entries::MOST_ENTRIES]
-    requires { ⌜ count ≤ 200 ⌝ }
+    requires { ⌜ count ≤ mostEntries ⌝ }
     ensures { λ r. ⌜ Places (take count r) × (entriesAt entries (take count r) ≡ inserted (take count entries)) ⌝ }
 {
     let mut places = [0u8; entries::MOST_ENTRIES];
@@ -170,7 +170,7 @@ fn gathered(
     places: [u8; entries::MOST_ENTRIES],
     count: usize,
 ) -> [Entry; entries::MOST_ENTRIES]
-    requires { ⌜ (count ≤ 200) × Places (take count places) ⌝ }
+    requires { ⌜ (count ≤ mostEntries) × Places (take count places) ⌝ }
     ensures { λ r. ⌜ r ≡ filled (entriesAt entries (take count places)) ⌝ }
 {
     let mut out = [Entry::empty(); entries::MOST_ENTRIES];

@@ -1,12 +1,12 @@
 -- `entries::cleared_name` meets its contract. The invariant: the first i bytes are cleared. Assumes
 -- nothing.
-use Prim.Native.Nat.{ℕ, _-_, _≤_}
+use Prim.Native.Nat.{_-_, _≤_}
 use mathlib.Core.Path.{_≡_, refl}
 use mathlib.Core.Bool.{cond}
 use native.Mathlib.Omega.{arith}
 use borrow.Author.Needs.{needs}
 use lib.Dec.{ltb}
-use lib.ListN.{length, getD, take, set, length-set}
+use lib.ListN.{length, getD, take, length-set}
 use Rattle.bits.specs.Bits.{tabulate}
 use Rattle.bits.proofs.Lists.{fill, filled}
 use Rattle.entries.specs.Entries.{clearedName}

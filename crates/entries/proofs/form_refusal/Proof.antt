@@ -1,6 +1,6 @@
--- `entries::form_refusal` meets its contract. The invariant: no entry before i is bad. Assumes
--- nothing.
-use Prim.Native.Nat.{ℕ, _-_, _≤_}
+-- `entries::form_refusal` meets its contract. The invariant: no entry before the place is bad.
+-- Assumes nothing.
+use Prim.Native.Nat.{_-_, _≤_}
 use mathlib.Core.Path.{_≡_, refl, sym, _∙_}
 use mathlib.Core.Bool.{false}
 use native.Mathlib.Omega.{arith}
@@ -11,10 +11,11 @@ use Rattle.entries.proofs.form_refusal.Statement.{statement}
 use Rattle.entries.proofs.form_refusal.Tie as tie
 
 abbrev Inv-loop : tie.InvT-loop
-Inv-loop count entries i₀ i = (i ≤ count) × (count ≤ 200) × (false ≡ anyBelow i (badAt entries count))
+Inv-loop count entries place₀ place =
+    (place ≤ count) × (count ≤ 200) × (false ≡ anyBelow place (badAt entries count))
 
 abbrev μ-loop : tie.MeasureT-loop
-μ-loop count entries i₀ i = count - i
+μ-loop count entries place₀ place = count - place
 
 returns : tie.Need-returns Inv-loop μ-loop
 returns c = sym (too-many (c .before .args .t1) (c .before .args .count) (c .if1 .taken))
@@ -35,10 +36,10 @@ returns-2 : tie.Need-returns-2 Inv-loop μ-loop
 returns-2 c =
     let l = c .before .before .before .before .loop in
     let a = c .before .before .before .before .before .before .args in
-    sym (one-bad (a .t1) (a .count) (l .i) (omega arith) (omega arith) (sym (c .before .is-bad .ensures) ∙ c .if2 .taken))
+    sym (one-bad (a .t1) (a .count) (l .place) (omega arith) (omega arith) (sym (c .before .is-bad .ensures) ∙ c .if2 .taken))
 
-add-i : tie.Need-add-i Inv-loop μ-loop
-add-i c = search needs
+add-place : tie.Need-add-place Inv-loop μ-loop
+add-place c = search needs
 
 loop-less : tie.Need-loop-less Inv-loop μ-loop
 loop-less c = search needs
@@ -47,13 +48,13 @@ loop-again : tie.Need-loop-again Inv-loop μ-loop
 loop-again c =
     let l = c .before .before .before .before .loop in
     let a = c .before .before .before .before .before .before .args in
-    (omega arith, l .inv .1, any-next (badAt (a .t1) (a .count)) (l .i) false (l .inv .2) (sym (c .before .is-bad .ensures) ∙ c .if2 .left))
+    (omega arith, l .inv .1, any-next (badAt (a .t1) (a .count)) (l .place) false (l .inv .2) (sym (c .before .is-bad .ensures) ∙ c .if2 .left))
 
 returns-3 : tie.Need-returns-3 Inv-loop μ-loop
 returns-3 c =
     let l = c .before .loop in
     let a = c .before .before .before .args in
-    let e : l .i ≡ a .count = omega arith in
+    let e : l .place ≡ a .count = omega arith in
     sym (none-bad (a .t1) (a .count) (l .inv .1) (sym (rw e at (l .inv .2))))
 
 pub form-refusal-spec : {M : Type 1} → statement M
@@ -68,7 +69,7 @@ form-refusal-spec =
     array-copy-out-e
     is-bad-requires
     returns-2
-    add-i
+    add-place
     loop-less
     loop-again
     returns-3)

@@ -1,6 +1,4 @@
 -- `entries::kept` meets its contract, by its test. Assumes nothing.
-use mathlib.Core.Path.{_≡_, sym}
-use native.Mathlib.Omega.{arith}
 use borrow.Author.Tests.{lt-ltb, le-ltb}
 use Rattle.entries.proofs.kept.Statement.{statement}
 use Rattle.entries.proofs.kept.Tie as tie

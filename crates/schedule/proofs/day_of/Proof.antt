@@ -1,11 +1,9 @@
 -- `schedule::day_of` meets its contract: refused, it gives the number and a day of zeros; accepted,
 -- the cleared entries gathered in the order of their places. Assumes nothing.
 use Prim.Native.Nat.{_≤_}
-use mathlib.Core.Path.{_≡_}
 use native.Mathlib.Omega.{arith}
 use borrow.Author.Needs.{needs}
 use lib.ListN.{take}
-use Rattle.schedule.specs.Days.{dayRefusal}
 use Rattle.schedule.specs.Schedules.{Accepted}
 use Rattle.schedule.proofs.Answers.{accepted-count, answer-refused, answer-accepted}
 use Rattle.schedule.proofs.day_of.Statement.{statement}

@@ -1,6 +1,4 @@
 -- `schedule::empty_day` meets its contract, by its definition. Assumes nothing.
-use mathlib.Core.Path.{_≡_, refl}
-use native.Mathlib.Omega.{arith}
 use borrow.Author.Needs.{needs}
 use Rattle.entries.specs.Entries.{filled}
 use Rattle.schedule.specs.Days.{emptyDay}

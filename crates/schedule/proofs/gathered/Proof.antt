@@ -1,10 +1,10 @@
 -- `schedule::gathered` meets its contract. The invariant: the first i places are filled, the others
 -- empty. Assumes nothing.
 use Prim.Native.Nat.{ℕ, _-_, _≤_, _<_}
-use mathlib.Core.Path.{_≡_, refl, sym, ap, _∙_}
+use mathlib.Core.Path.{_≡_, ap, _∙_}
 use native.Mathlib.Omega.{arith}
 use borrow.Author.Needs.{needs}
-use lib.ListN.{length, getD, take}
+use lib.ListN.{getD}
 use Rattle.entries.specs.Entries.{emptyEntry, filled, noEntry}
 use Rattle.entries.proofs.Fills.{filling, filling-none, filling-more, filling-filled}
 use Rattle.schedule.proofs.Places.{entries-table, place-below}

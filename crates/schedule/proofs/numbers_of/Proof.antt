@@ -1,6 +1,6 @@
 -- `schedule::numbers_of` meets its contract. The invariant: the first i numbers are there. Assumes
 -- nothing.
-use Prim.Native.Nat.{ℕ, _-_, _≤_}
+use Prim.Native.Nat.{_-_, _≤_}
 use mathlib.Core.Path.{_≡_, refl}
 use native.Mathlib.Omega.{arith}
 use borrow.Author.Needs.{needs}

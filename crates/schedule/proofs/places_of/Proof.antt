@@ -5,8 +5,6 @@ use Prim.Native.Nat.{ℕ, _+_, _-_, _/_, _≤_, _<_}
 use mathlib.Core.Path.{_≡_, refl}
 use native.Mathlib.Omega.{arith}
 use borrow.Author.Needs.{needs}
-use lib.ListN.{length, getD}
-use Rattle.entries.specs.Entries.{noEntry}
 use Rattle.schedule.proofs.Places.{Placed, placed-none, placed-more, Searched, search-start, search-up, search-down, place-below}
 use Rattle.schedule.proofs.places_of.Statement.{statement}
 use Rattle.schedule.proofs.places_of.Tie as tie

@@ -1,8 +1,4 @@
 -- `entries::Entry::cleared` meets its contract, by its definition. Assumes nothing.
-use mathlib.Core.Path.{_≡_}
-use mathlib.Core.List.{List}
-use Prim.Native.Nat.{ℕ}
-use native.Mathlib.Omega.{arith}
 use borrow.Author.Needs.{needs}
 use Rattle.entries.specs.Entries.{clearedEntry}
 use Rattle.entries.proofs.Entry.cleared.Statement.{statement}
