@@ -1,6 +1,7 @@
 /*
  * Hirtxonda for C and C++: a proved software model of the processor's SSE4.2 string compares, a
- * search over it, leading runs, the order of two texts, and decimal columns.
+ * search over it, leading runs, the order of two texts, the running order of a day, and decimal
+ * columns.
  *
  * Link with target/staticlib/libcapi.a, which `rt staticlib capi` proves and builds. The library
  * needs memcpy and memset and nothing else. It has no state, takes no memory but the stack, and may
@@ -20,9 +21,11 @@
  *   return an index, hx_cursor_fresh and hx_refusal_line return nothing.
  * - The caller owns all memory. The library keeps no pointer after a call, and frees nothing.
  * - A pointer must not be null, also where its length is 0, and must be aligned for its type. A
- *   length is in elements: bytes, words of 16 bits, or positions of 64.
- * - What is written (cursor, index, flags, mask, positions, buffer, page, ..) must overlap nothing
- *   else that the call is handed.
+ *   length is in elements: bytes, words of 16 bits, positions of 64, or the entries of a day, whose
+ *   length is their count.
+ * - What is written (cursor, index, flags, mask, positions, day, buffer, page, ..) must overlap
+ *   nothing else that the call is handed. That holds for a day too, though its entries are all read
+ *   before it is written.
  * - Every value is allowed for every number, and every byte in every buffer: each is answered or
  *   refused. A length above its limit is refused before any element is read. Any other length must
  *   be true: then nothing is read or written outside the buffers.
@@ -52,6 +55,9 @@ extern "C" {
 #define HX_COMPARES_REFUSED 23u  /* the cursor has more than 1,099,511,627,776 compares */
 #define HX_BUFFER_REFUSED 24u    /* a buffer shorter than the column's width */
 #define HX_STOP_REFUSED 31u      /* the cursor's stop is above the text's length; before 22 */
+#define HX_COUNT_REFUSED 32u     /* a day of more than 200 entries */
+#define HX_ENTRY_REFUSED 33u     /* an entry with a minute above 1,439 or a name above 32 bytes */
+#define HX_NUMBER_REFUSED 34u    /* a day with an entry number that stands twice */
 
 /* ---- limits ---- */
 
@@ -60,6 +66,9 @@ extern "C" {
 #define HX_MOST_COMPARES UINT64_C(1099511627776)
 #define HX_LONGEST_LIST_IN_BYTES 16u /* of a set or of bounds */
 #define HX_LONGEST_LIST_IN_WORDS 8u
+#define HX_MOST_ENTRIES 200u /* of a day */
+#define HX_LAST_MINUTE 1439u /* of an entry */
+#define HX_LONGEST_NAME 32u  /* bytes, of an entry */
 #define HX_WIDEST_COLUMN 20u
 #define HX_LONGEST_INPUT 65536u
 #define HX_LONGEST_REPORT 589843u /* the bytes of a page: enough for the report of every input */
@@ -253,6 +262,61 @@ uint32_t hx_lesser_in_bytes(const uint8_t *first, size_t first_length, const uin
                             size_t second_length, uint32_t is_signed, uint32_t *which);
 uint32_t hx_lesser_in_words(const uint16_t *first, size_t first_length, const uint16_t *second,
                             size_t second_length, uint32_t is_signed, uint32_t *which);
+
+/* ---- the running order of a day ----
+ *
+ * The services of a day, sorted by minute, then by name, then by entry number. One set of entries
+ * makes one day, byte for byte, in whatever order they are handed over:
+ *
+ *     hx_entry entries[3] = {{8, 630, 5, "SMITH"}, {3, 545, 5, "OTWAY"}, {5, 630, 5, "JONES"}};
+ *     hx_day day;
+ *     uint32_t status = hx_day_of(entries, 3, &day);
+ *     if (status != 0)
+ *         printf("refused with number %" PRIu32 "\n", status);
+ *     for (size_t i = 0; status == 0 && i < day.count; i++)
+ *         printf("%" PRIu32 "\n", day.entries[i].number); // 3, 5, 8
+ *
+ * Of two names, at the first difference the smaller byte decides, as an unsigned number; if one is
+ * the front of the other, the shorter is smaller. A zero is a byte like any other. What stands past
+ * a name's length is no part of it, and decides nothing.
+ */
+
+/* A service. Any numbers and bytes may stand here; each entry is accepted or refused. */
+typedef struct hx_entry {
+    uint32_t number;               /* no two entries of a day have the same */
+    uint16_t minute;               /* of the day, at most HX_LAST_MINUTE */
+    uint16_t length;               /* of the name, in bytes, at most HX_LONGEST_NAME */
+    uint8_t name[HX_LONGEST_NAME]; /* the bytes past the length may be any */
+} hx_entry;
+
+/* A day: its entries in their order, then zeros up to the last place. */
+typedef struct hx_day {
+    hx_entry entries[HX_MOST_ENTRIES];
+    uint64_t count;
+} hx_day;
+
+/* The library takes an entry as 40 bytes, each number with its low byte first. */
+#if defined(__BYTE_ORDER__) && __BYTE_ORDER__ != __ORDER_LITTLE_ENDIAN__
+#error "hirtxonda.h: this machine does not have the low byte first"
+#endif
+typedef char hx_entry_has_40_bytes[sizeof(hx_entry) == 40 ? 1 : -1];
+typedef char hx_day_has_8008_bytes[sizeof(hx_day) == 8008 ? 1 : -1];
+
+/* The library's own call, for hx_day_of below: the places of a day and its count, each apart. */
+uint32_t hx_day_of_parts(const hx_entry *entries, size_t count, hx_entry day[HX_MOST_ENTRIES],
+                         uint64_t *day_count);
+
+/* Writes to *day the running order of the first `count` entries, the whole of it: these entries
+ * sorted, the bytes of each name past its length zero; all zeros in the places past the count; and
+ * the count. No entry past the count is read.
+ * It returns 0, or, tested in this order,
+ *   HX_COUNT_REFUSED: the count is above HX_MOST_ENTRIES; no entry is read;
+ *   HX_ENTRY_REFUSED: an entry has a minute above HX_LAST_MINUTE or a length above HX_LONGEST_NAME;
+ *   HX_NUMBER_REFUSED: two entries have the same number. */
+static inline uint32_t hx_day_of(const hx_entry *entries, size_t count, hx_day *day)
+{
+    return hx_day_of_parts(entries, count, day->entries, &day->count);
+}
 
 /* ---- columns and the report ---- */
 

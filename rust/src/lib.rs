@@ -6,16 +6,18 @@
 //! bit for bit. On x86-64 [`silicon`] has the four instructions and the search on the instructions
 //! themselves.
 //!
-//! Texts are slices of bytes or of 16-bit words ([`Element`]). Bad input is refused by a listed
-//! number, a [`Refusal`], and nothing is changed.
+//! Texts are slices of bytes or of 16-bit words ([`Element`]). A [`Day`] has the services of a day
+//! in their running order. Bad input is refused by a listed number, a [`Refusal`], and nothing is
+//! changed.
 //!
 //! # Example
 //!
 //! Where does `AB` stand in `ABZAB`, and where in its first four bytes? Where does `ABC` stand in
-//! one block of sixteen bytes? Where do the letters of a line end?
+//! one block of sixteen bytes? Where do the letters of a line end? Which of two services at 10:30
+//! is the first?
 //!
 //! ```
-//! use hirtxonda::{matches, matches_until, pcmpestri, range_span, Refusal, Signedness};
+//! use hirtxonda::{matches, matches_until, pcmpestri, range_span, Day, Entry, Refusal, Signedness};
 //!
 //! # fn main() -> Result<(), Refusal> {
 //! let mut found = matches(b"ABZAB", b"AB")?;
@@ -29,6 +31,9 @@
 //! assert!(answer.flags.carry && answer.flags.sign && !answer.flags.zero);
 //!
 //! assert_eq!(range_span(b"SMITH 1871", b"AZaz", Signedness::Unsigned)?, b"SMITH");
+//!
+//! let day = Day::of(&[Entry::new(3, 630, b"SMITH"), Entry::new(8, 630, b"JONES")])?;
+//! assert_eq!(day.entries()[0].name(), b"JONES");
 //! # Ok(())
 //! # }
 //! ```
@@ -39,6 +44,7 @@ mod refusal;
 mod unit;
 mod search;
 mod text;
+mod schedule;
 mod report;
 mod raw;
 #[cfg(target_arch = "x86_64")]
@@ -46,6 +52,7 @@ pub mod silicon;
 
 pub use refusal::Refusal;
 pub use report::{refusal_line, report, report_into, right_justified, LONGEST_INPUT, LONGEST_REPORT, WIDEST_COLUMN};
+pub use schedule::{Day, Entry, LAST_MINUTE, LONGEST_NAME, MOST_ENTRIES};
 pub use search::{matches, matches_until, Cursor, End, Filled, Matches, Next, LONGEST_NEEDLE, MOST_COMPARES};
 pub use text::{compare, lesser, range_span, span, Element, Signedness, LONGEST_TEXT};
 pub use unit::{

@@ -10,6 +10,19 @@ pub struct Cursor {
     pub stop: u64,
 }
 
+/// `hx_entry`.
+#[repr(C)]
+#[derive(Clone, Copy, Debug, PartialEq, Eq, Hash)]
+pub struct Entry {
+    pub number: u32,
+    pub minute: u16,
+    pub length: u16,
+    pub name: [u8; 32],
+}
+
+// The library takes an entry as these bytes, each number with its low byte first.
+const _: () = assert!(std::mem::size_of::<Entry>() == 40 && cfg!(target_endian = "little"));
+
 /// What an accepted search returns where there is no more match.
 pub const ABSENT: u32 = 256;
 
@@ -92,6 +105,7 @@ extern "C" {
     pub fn hx_pcmpestri_19(operand1: Block, length1: usize, operand2: Block, length2: usize) -> u32;
     #[allow(dead_code)] // a fresh cursor needs no call
     pub fn hx_cursor_fresh(cursor: *mut Cursor, stop: u64);
+    pub fn hx_day_of_parts(entries: *const Entry, count: usize, day: *mut Entry, day_count: *mut u64) -> u32;
     pub fn hx_right_justified(number: u64, width: usize, buffer: *mut u8, buffer_length: usize) -> u32;
     pub fn hx_report(input: *const u8, input_length: usize, page: *mut u8, written: *mut usize) -> u32;
     pub fn hx_refusal_line(number: u32, line: *mut u8);

@@ -60,6 +60,9 @@ refusals! {
     Compares = 23, "the cursor has more than 1,099,511,627,776 compares";
     Buffer = 24, "the buffer is shorter than the column's width";
     Stop = 31, "the stop is above the text's length";
+    Count = 32, "the day has more than 200 entries";
+    Entry = 33, "an entry has a minute above 1,439 or a name of more than 32 bytes";
+    Number = 34, "an entry number stands twice";
 }
 
 impl Refusal {

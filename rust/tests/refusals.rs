@@ -34,7 +34,7 @@ fn written<T: Copy + PartialEq + std::fmt::Debug>(sentinel: T, call: impl FnOnce
 #[test]
 fn listed_numbers() {
     let listed: Vec<u32> = (0..1000).filter(|&number| Refusal::from_number(number).is_some()).collect();
-    assert_eq!(listed, [1, 2, 3, 4, 5, 6, 7, 8, 21, 22, 23, 24, 31]);
+    assert_eq!(listed, [1, 2, 3, 4, 5, 6, 7, 8, 21, 22, 23, 24, 31, 32, 33, 34]);
     for number in listed {
         let refusal = Refusal::from_number(number).unwrap();
         assert_eq!(refusal.number(), number);
@@ -51,7 +51,7 @@ fn header() {
         let value = line.split_whitespace().nth(2).unwrap().trim_start_matches("UINT64_C(");
         value.trim_end_matches([')', 'u']).parse::<usize>().expect(name)
     };
-    assert_eq!(header.lines().filter(|line| line.starts_with("#define HX_") && line.contains("_REFUSED ")).count(), 13);
+    assert_eq!(header.lines().filter(|line| line.starts_with("#define HX_") && line.contains("_REFUSED ")).count(), 16);
     for number in (0..100).filter_map(Refusal::from_number) {
         let name = format!("{number:?}_REFUSED").to_uppercase();
         assert_eq!(defined(&name), number.number() as usize);
@@ -61,6 +61,9 @@ fn header() {
     assert_eq!(defined("MOST_COMPARES") as u64, MOST_COMPARES);
     assert_eq!(defined("LONGEST_LIST_IN_BYTES"), u8::BLOCK);
     assert_eq!(defined("LONGEST_LIST_IN_WORDS"), u16::BLOCK);
+    assert_eq!(defined("MOST_ENTRIES"), hirtxonda::MOST_ENTRIES);
+    assert_eq!(defined("LAST_MINUTE"), usize::from(hirtxonda::LAST_MINUTE));
+    assert_eq!(defined("LONGEST_NAME"), hirtxonda::LONGEST_NAME);
     assert_eq!(defined("WIDEST_COLUMN"), hirtxonda::WIDEST_COLUMN);
     assert_eq!(defined("LONGEST_INPUT"), hirtxonda::LONGEST_INPUT);
     assert_eq!(defined("LONGEST_REPORT"), hirtxonda::LONGEST_REPORT);
@@ -375,12 +378,42 @@ fn signed_numbers() {
     }
 }
 
+/// Every set of conditions out of 32, 33 and 34: the first number is given, and the day stays.
+/// Where none holds, all of it is written.
+#[test]
+fn days() {
+    const PLACES: usize = hirtxonda::MOST_ENTRIES;
+    let place = raw::Entry { number: SENTINEL as u32, minute: 0xa5a5, length: 0xa5a5, name: [BYTE; 32] };
+    let before = ([place; PLACES], SENTINEL);
+    for conditions in 0..8u32 {
+        let past = |condition: u32| (conditions >> condition & 1) as u16;
+        let with = |number| raw::Entry { number, minute: hirtxonda::LAST_MINUTE, length: 32, name: [0x41; 32] };
+        let good: Vec<raw::Entry> = (0..PLACES as u32 + 1).map(with).collect();
+        for (minute, length) in [(past(1), 0), (0, past(1)), (past(1), past(1))] {
+            let mut entries = good.clone();
+            entries[PLACES - 1].minute += minute;
+            entries[0].length += length;
+            entries[PLACES - 2].number -= u32::from(past(2));
+            let count = PLACES + usize::from(past(0));
+            // SAFETY: see `controls`.
+            let (number, day) = written(before, |p| unsafe {
+                let (places, day_count) = (&raw mut (*p).0, &raw mut (*p).1);
+                hx_day_of_parts(entries.as_ptr(), count, places.cast(), day_count)
+            });
+            let expected = *[32, 33, 34].get(conditions.trailing_zeros() as usize).unwrap_or(&0);
+            assert_eq!(number, expected, "conditions {conditions:03b}");
+            assert!(number > 0 || day.0[..] == good[..PLACES] && day.1 == PLACES as u64);
+        }
+    }
+}
+
 /// A length above its limit is refused before any element is read: here it is far longer than what
 /// stands behind the pointer.
 #[test]
 fn refused_lengths_are_not_read() {
     let (byte, word) = ([1u8], [1u16]);
     let cursor = raw::Cursor { position: 0, compares: 0, exhausted: 0, stop: 1 };
+    let entry = raw::Entry { number: 1, minute: 2, length: 3, name: [BYTE; 32] };
     for huge in [LONGEST_TEXT + 1, 1 << 32, 1 << 62, usize::MAX / 2, usize::MAX] {
         // SAFETY: the header allows it, since no element is read.
         unsafe {
@@ -400,6 +433,9 @@ fn refused_lengths_are_not_read() {
             assert_eq!(written(7, |p| hx_range_span_in_bytes(byte.as_ptr(), 1, byte.as_ptr(), huge, 1, p)).0, 4);
             assert_eq!(written(7, |p| hx_compare_in_words(word.as_ptr(), 1, word.as_ptr(), huge, 1, p)).0, 2);
             assert_eq!(written(7, |p| hx_lesser_in_bytes(byte.as_ptr(), huge, byte.as_ptr(), 1, 0, p)).0, 2);
+            let mut day = [entry; hirtxonda::MOST_ENTRIES];
+            assert_eq!(written(7, |p| hx_day_of_parts(&entry, huge, day.as_mut_ptr(), p)).0, 32);
+            assert!(day.iter().all(|&place| place == entry));
             let mut page = vec![BYTE; LONGEST_REPORT];
             assert_eq!(written(7, |p| hx_report(byte.as_ptr(), huge, page.as_mut_ptr(), p)).0, 7);
             assert!(page.iter().all(|&byte| byte == BYTE));

@@ -1,5 +1,6 @@
 // Times the proved search and the proved unit beside the processor's own instructions, the C
-// library's memmem and a plain loop. tests/bench/run builds it, runs it and makes the tables.
+// library's memmem and a plain loop, and the proved running order of a day beside the C library's
+// qsort. tests/bench/run builds it, runs it and makes the tables.
 //
 //   bench search ROUNDS      a line for each case: all contenders, in turn, in one process
 //   bench real ROUNDS        a line for each case: the real walk alone, for a run under an emulator
@@ -10,10 +11,11 @@
 //   bench real-unit ROUNDS   the instructions alone, without REX.W; controls that an emulator lacks
 //                            are left out
 //   bench entries ROUNDS     one compare at 0Ch and at 18h, block after block
+//   bench day ROUNDS         a line for each kind of day: the proved call and qsort
 //
 // Times are the least of the rounds, in nanoseconds. In `search` each contender's matches are
 // checked against the proved search's, and so are the compares of every walk, in `stops` too. There
-// the lines have ratios.
+// the lines have ratios. In `day` both must give the same entries in the same order.
 #define _GNU_SOURCE
 #include <immintrin.h>
 #include <setjmp.h>
@@ -676,9 +678,85 @@ static void time_entries(int rounds) {
     printf("18h whole blocks\t%.3f\t%.3f\n", best[0] / (n / 16), best[1] / (n / 16));
 }
 
+// ---- the running order of a day
+
+// Several days of each kind in turn, so that no branch of theirs is learnt by heart.
+#define DAYS 32
+
+enum { RANDOM, SORTED, REVERSED, ONE_MINUTE, KINDS };
+
+static hx_entry days[DAYS][HX_MOST_ENTRIES];
+
+// minute, name, number: what a programmer would hand to qsort
+static int order(const void *x, const void *y) {
+    const hx_entry *a = x, *b = y;
+    if (a->minute != b->minute) return a->minute < b->minute ? -1 : 1;
+    int names = memcmp(a->name, b->name, a->length < b->length ? a->length : b->length);
+    if (names) return names;
+    if (a->length != b->length) return a->length < b->length ? -1 : 1;
+    return a->number < b->number ? -1 : a->number > b->number;
+}
+
+// Minutes on the five from 08:00 to 18:00, the register's surnames and given names; or one minute,
+// and names that agree in 31 bytes. The numbers are in no order but that of a step.
+static void make_day(hx_entry *day, int kind) {
+    uint32_t number = draw(1000000), step = 2 * draw(500000) + 1;
+    for (uint32_t i = 0; i < HX_MOST_ENTRIES; i++) {
+        hx_entry *e = &day[i];
+        memset(e, 0, sizeof *e);
+        e->number = number += step;
+        if (kind == ONE_MINUTE) {
+            e->minute = 630;
+            e->length = HX_LONGEST_NAME;
+            memset(e->name, 'A', HX_LONGEST_NAME);
+            e->name[HX_LONGEST_NAME - 1] = (uint8_t)draw(256);
+        } else {
+            char name[64];
+            e->minute = (uint16_t)(480 + 5 * draw(120));
+            e->length = (uint16_t)snprintf(name, sizeof name, "%s, %s", surnames[draw(COUNT(surnames))], given[draw(COUNT(given))]);
+            memcpy(e->name, name, e->length);
+        }
+    }
+    if (kind == SORTED || kind == REVERSED) qsort(day, HX_MOST_ENTRIES, sizeof *day, order);
+    for (uint32_t i = 0, j = HX_MOST_ENTRIES - 1; kind == REVERSED && i < j; i++, j--) {
+        hx_entry other = day[i];
+        day[i] = day[j];
+        day[j] = other;
+    }
+}
+
+static void time_day(int rounds) {
+    static const char *names[KINDS] = {"random", "sorted", "reversed", "one minute, names alike in 31 bytes"};
+    static hx_day proved[DAYS], sorted[DAYS];
+    for (int kind = RANDOM; kind < KINDS; kind++) {
+        double best[2] = {1e300, 1e300};
+        for (int k = 0; k < DAYS; k++) make_day(days[k], kind);
+        for (int r = 0; r < rounds; r++) {
+            double t = now();
+            uint32_t refused = 0;
+            for (int k = 0; k < DAYS; k++) refused |= hx_day_of(days[k], HX_MOST_ENTRIES, &proved[k]);
+            t = now() - t;
+            if (t < best[0]) best[0] = t;
+            t = now();
+            for (int k = 0; k < DAYS; k++) {
+                memcpy(sorted[k].entries, days[k], sizeof days[k]);
+                qsort(sorted[k].entries, HX_MOST_ENTRIES, sizeof(hx_entry), order);
+                sorted[k].count = HX_MOST_ENTRIES;
+            }
+            t = now() - t;
+            if (t < best[1]) best[1] = t;
+            if (refused || memcmp(proved, sorted, sizeof sorted)) {
+                fprintf(stderr, "bench: %s: the day is refused, or not what qsort makes\n", names[kind]);
+                exit(1);
+            }
+        }
+        printf("%s\t%.0f\t%.0f\n", names[kind], best[0] / DAYS, best[1] / DAYS);
+    }
+}
+
 int main(int argc, char **argv) {
     if (argc != 3) {
-        fprintf(stderr, "usage: bench search|real|stops|growth|unit|real-unit|entries ROUNDS\n");
+        fprintf(stderr, "usage: bench search|real|stops|growth|unit|real-unit|entries|day ROUNDS\n");
         return 2;
     }
     int rounds = atoi(argv[2]);
@@ -686,6 +764,7 @@ int main(int argc, char **argv) {
     else if (!strcmp(argv[1], "unit")) time_unit(rounds, 1);
     else if (!strcmp(argv[1], "real-unit")) time_unit(rounds, 0);
     else if (!strcmp(argv[1], "entries")) time_entries(rounds);
+    else if (!strcmp(argv[1], "day")) time_day(rounds);
     else {
         make_cases(MIB);
         if (!strcmp(argv[1], "search")) time_search(rounds);

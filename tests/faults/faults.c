@@ -1133,6 +1133,163 @@ static void try_compare_words(void) { try_order(2, false); }
 static void try_lesser_bytes(void) { try_order(1, true); }
 static void try_lesser_words(void) { try_order(2, true); }
 
+/* ---- the running order of a day ---- */
+
+/* A name of up to 32 bytes, and any bytes past its length. Now and then it is that of an entry
+ * before, or its front, with what is past it drawn anew or a bit changed. */
+static void draw_name(hx_entry *entries, size_t i)
+{
+    static const uint16_t lengths[] = {0, 1, 15, 16, 17, 31, 32, 32};
+    uint8_t name[HX_LONGEST_NAME];
+    size_t length = one_in(2) ? lengths[below(COUNT(lengths))] : below(HX_LONGEST_NAME + 1);
+    scribble(name, sizeof name);
+    if (i != 0 && !one_in(4)) {
+        const hx_entry *other = &entries[below(i)];
+        length = one_in(2) ? other->length : below(HX_LONGEST_NAME + 1);
+        memcpy(name, other->name, length);
+        if (length != 0 && one_in(3)) {
+            size_t at = one_in(2) ? length - 1 : below(length);
+            name[at] ^= (uint8_t)(1u << below(8));
+        }
+    }
+    entries[i].length = (uint16_t)length;
+    memcpy(entries[i].name, name, sizeof name);
+}
+
+/* Numbers that all differ: a step that is odd gives none twice. */
+static void draw_numbers(hx_entry *entries, size_t count)
+{
+    static const uint32_t starts[] = {0, 1, UINT32_MAX, INT32_MAX, UINT32_C(1) << 31};
+    static const uint32_t steps[] = {1, UINT32_MAX, 65537, (UINT32_C(1) << 31) + 1};
+    uint32_t number = one_in(2) ? starts[below(COUNT(starts))] : (uint32_t)draw();
+    uint32_t step = one_in(2) ? steps[below(COUNT(steps))] : (uint32_t)draw() | 1;
+    for (size_t i = 0; i < count; i++, number += step)
+        entries[i].number = number;
+}
+
+/* One mistake: a minute or a length above its limit, or a number that stands twice, mostly in the
+ * first entry or the last. */
+static void spoil(hx_entry *entries, size_t count)
+{
+    static const uint16_t minutes[] = {1440, 1441, 1439 + 256, 32768, UINT16_MAX};
+    static const uint16_t lengths[] = {33, 34, 256, 256 + 5, 32768, UINT16_MAX};
+    size_t at = one_in(3) ? 0 : one_in(2) ? count - 1 : below(count);
+    switch (below(3)) {
+    case 0: entries[at].minute = one_in(4) ? (uint16_t)draw() : minutes[below(COUNT(minutes))]; break;
+    case 1: entries[at].length = one_in(4) ? (uint16_t)draw() : lengths[below(COUNT(lengths))]; break;
+    default: entries[at].number = entries[below(count)].number;
+    }
+}
+
+static void draw_entries(hx_entry *entries, size_t count)
+{
+    static const uint16_t minutes[] = {0, 629, 630, 1439};
+    uint64_t few = below(5);
+    draw_numbers(entries, count);
+    for (size_t i = 0; i < count; i++) {
+        entries[i].minute = few < COUNT(minutes) ? minutes[below(few + 1)] : (uint16_t)below(HX_LAST_MINUTE + 1);
+        draw_name(entries, i);
+    }
+    for (uint64_t mistakes = one_in(3) ? 1 + below(3) : 0; count != 0 && mistakes > 0; mistakes--)
+        spoil(entries, count);
+}
+
+/* The number that refuses the entries: 32, 33 and 34 are tested in this order. */
+static uint32_t day_refusal(const hx_entry *entries, size_t count)
+{
+    if (count > HX_MOST_ENTRIES)
+        return HX_COUNT_REFUSED;
+    for (size_t i = 0; i < count; i++)
+        if (entries[i].minute > HX_LAST_MINUTE || entries[i].length > HX_LONGEST_NAME)
+            return HX_ENTRY_REFUSED;
+    for (size_t i = 0; i < count; i++)
+        for (size_t j = 0; j < i; j++)
+            if (entries[i].number == entries[j].number)
+                return HX_NUMBER_REFUSED;
+    return 0;
+}
+
+/* Whether one entry stands before the other: by minute, by name, by number. */
+static bool stands_before(const hx_entry *x, const hx_entry *y)
+{
+    if (x->minute != y->minute)
+        return x->minute < y->minute;
+    for (size_t i = 0; i < x->length && i < y->length; i++)
+        if (x->name[i] != y->name[i])
+            return x->name[i] < y->name[i];
+    if (x->length != y->length)
+        return x->length < y->length;
+    return x->number < y->number;
+}
+
+/* Each entry of an accepted day stands at the place that the number of those before it says, with
+ * zeros past its name; the places past the count are zeros. */
+static void check_day(const hx_entry *entries, size_t count, const hx_entry *day)
+{
+    static const hx_entry zeros;
+    for (size_t i = 0; i < count; i++) {
+        hx_entry cleared = entries[i];
+        size_t before = 0;
+        memset(cleared.name + cleared.length, 0, HX_LONGEST_NAME - cleared.length);
+        for (size_t j = 0; j < count; j++)
+            before += stands_before(&entries[j], &entries[i]);
+        if (memcmp(&day[before], &cleared, sizeof cleared) != 0)
+            fail("place %zu of the day has not entry %zu, number %" PRIu32 ", cleared", before, i, cleared.number);
+    }
+    for (size_t i = count; i < HX_MOST_ENTRIES; i++)
+        if (memcmp(&day[i], &zeros, sizeof zeros) != 0)
+            fail("place %zu of the day, past the count, is not zeros", i);
+}
+
+/* A count, and as many entries; above the limit it is not true, and there are four at most. */
+static size_t draw_count(size_t *held)
+{
+    if (one_in(10)) {
+        *held = below(5);
+        return above(HX_MOST_ENTRIES);
+    }
+    static const size_t counts[] = {0, 1, 2, 3, 199, 200};
+    return *held = one_in(4) ? counts[below(COUNT(counts))] : one_in(12) ? below(HX_MOST_ENTRIES + 1) : below(12);
+}
+
+/* The day as one output, by hx_day_of, or its places and its count as two, by hx_day_of_parts. */
+static void try_day(bool parts)
+{
+    place e, d, c;
+    uint32_t result;
+    size_t held;
+    uint64_t *day_count;
+    begin(parts ? "hx_day_of_parts" : "hx_day_of");
+    size_t count = draw_count(&held);
+    put(&e, A, held * sizeof(hx_entry), _Alignof(hx_entry), false);
+    hx_entry *entries = (hx_entry *)e.at;
+    draw_entries(entries, held);
+    chosen(&e);
+    arg("count", count);
+    if (parts) {
+        hx_entry *places = out(&d, C, HX_MOST_ENTRIES * sizeof(hx_entry), _Alignof(hx_entry));
+        day_count = out(&c, D, sizeof *day_count, sizeof *day_count);
+        CALL(hx_day_of_parts(entries, count, places, day_count));
+    } else {
+        hx_day *day = out(&d, C, sizeof *day, _Alignof(hx_day));
+        day_count = &day->count;
+        CALL(hx_day_of(entries, count, day));
+    }
+    expect(result, day_refusal(entries, count));
+    if (result == 0) {
+        check_day(entries, count, (const hx_entry *)d.at);
+        if (*day_count != count)
+            fail("the day's count is %" PRIu64 ", not %zu", *day_count, count);
+        written(&d, d.bytes);
+        if (parts)
+            written(&c, c.bytes);
+    }
+    settle();
+}
+
+static void try_day_of(void) { try_day(false); }
+static void try_day_of_parts(void) { try_day(true); }
+
 /* ---- columns and the report ---- */
 
 static uint64_t draw_number(void)
@@ -1300,6 +1457,8 @@ static void (*const tries[])(void) = {
     try_span_bytes, try_span_words, try_ranges_bytes, try_ranges_words,
     /* orders */
     try_compare_bytes, try_compare_words, try_lesser_bytes, try_lesser_words,
+    /* the running order of a day */
+    try_day_of, try_day_of_parts,
     /* columns and the report */
     try_column, try_report, try_refusal_line,
 };

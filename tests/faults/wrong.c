@@ -337,6 +337,139 @@ WRAPPED(uint32_t, hx_lesser_in_words,
     return r;
 }
 
+/* The entry with this number, which one of them has. */
+static const hx_entry *entry_of(const hx_entry *entries, uint32_t number)
+{
+    while (entries->number != number)
+        entries++;
+    return entries;
+}
+
+/* The order of two entries of a day, with a mistake. */
+static int wrongly_before(const hx_entry *entries, const hx_entry *x, const hx_entry *y)
+{
+    if (x->minute != y->minute)
+        return x->minute < y->minute;
+    if (wrong(87)) /* the number before the name */
+        return x->number < y->number;
+    if (wrong(114)) { /* the bytes past a name decide, before they are cleared */
+        int order = memcmp(entry_of(entries, x->number)->name, entry_of(entries, y->number)->name, HX_LONGEST_NAME);
+        if (order != 0)
+            return order < 0;
+    }
+    for (int i = 0; i < x->length && i < y->length; i++)
+        if (x->name[i] != y->name[i])
+            /* names are signed */
+            return wrong(88) ? (int8_t)x->name[i] < (int8_t)y->name[i] : x->name[i] < y->name[i];
+    if (x->length != y->length)
+        /* the longer is smaller */
+        return wrong(89) ? x->length > y->length : x->length < y->length;
+    /* the greater number first */
+    return wrong(90) ? x->number > y->number : x->number < y->number;
+}
+
+/* Sorts a day once more, by that order. */
+static void sort_wrongly(const hx_entry *entries, size_t count, hx_entry *day)
+{
+    for (size_t i = 1; i < count; i++)
+        for (size_t j = i; j > 0 && wrongly_before(entries, &day[j], &day[j - 1]); j--) {
+            hx_entry other = day[j];
+            day[j] = day[j - 1];
+            day[j - 1] = other;
+        }
+}
+
+/* How many pairs of entries have one number. */
+static size_t doubled(const hx_entry *entries, size_t count)
+{
+    size_t found = 0;
+    for (size_t i = 0; i < count; i++)
+        for (size_t j = 0; j < i; j++)
+            found += entries[i].number == entries[j].number;
+    return found;
+}
+
+/* How many entries are refused by 33. */
+static size_t bad(const hx_entry *entries, size_t count)
+{
+    size_t found = 0;
+    for (size_t i = 0; i < count; i++)
+        found += entries[i].minute > HX_LAST_MINUTE || entries[i].length > HX_LONGEST_NAME;
+    return found;
+}
+
+/* An accepted day, made wrong. */
+static void spoil_day(const hx_entry *entries, size_t count, hx_entry *day, uint64_t *day_count, const hx_entry *old,
+                      uint64_t old_count)
+{
+    if (wrong(87) || wrong(88) || wrong(89) || wrong(90) || wrong(114))
+        sort_wrongly(entries, count, day);
+    /* the bytes past a name stay */
+    for (size_t i = 0; wrong(91) && i < count; i++)
+        memcpy(day[i].name, entry_of(entries, day[i].number)->name, sizeof day[i].name);
+    if (wrong(92)) /* the places past the count stay */
+        memcpy(day + count, old + count, (HX_MOST_ENTRIES - count) * sizeof *day);
+    if (wrong(93) && count < HX_MOST_ENTRIES) /* or the last of them alone */
+        day[HX_MOST_ENTRIES - 1] = old[HX_MOST_ENTRIES - 1];
+    if (wrong(94) && count > 1) /* one entry twice, and one lost */
+        day[count - 1] = day[count - 2];
+    if (wrong(95) && count > 2) { /* the last but two and the last are exchanged */
+        hx_entry other = day[count - 3];
+        day[count - 3] = day[count - 1];
+        day[count - 1] = other;
+    }
+    if (wrong(96) && count == 0) /* a count of 0 is not written */
+        *day_count = old_count;
+    if (wrong(97) && count == HX_MOST_ENTRIES) /* a count of one less */
+        --*day_count;
+    if (wrong(98)) /* reads the entry past the count */
+        sink = (uint8_t)entries[count].minute;
+    if (wrong(99)) /* reads before the entries */
+        sink = (uint8_t)entries[-1].minute;
+    if (wrong(100)) /* writes before the day */
+        day[-1].minute = 0;
+    if (wrong(101)) /* sorts the entries where they are */
+        memcpy((hx_entry *)(uintptr_t)entries, day, count * sizeof *day);
+    if (wrong(102)) /* writes behind the count, or behind the day */
+        day_count[1] = 0;
+}
+
+WRAPPED(uint32_t, hx_day_of_parts, (const hx_entry *entries, size_t count, hx_entry *day, uint64_t *day_count))
+{
+    static hx_entry old[HX_MOST_ENTRIES];
+    uint64_t old_count = *day_count;
+    memcpy(old, day, sizeof old);
+    if (wrong(103)) /* a count is cut to its low 32 bits */
+        count = (uint32_t)count;
+    if (wrong(104) && count > HX_MOST_ENTRIES) /* reads an entry before it refuses the count */
+        sink = (uint8_t)entries->minute;
+    uint32_t r = __real_hx_day_of_parts(entries, count, day, day_count);
+    if (r == 0)
+        spoil_day(entries, count, day, day_count, old, old_count);
+    /* the last entry is not tested */
+    if (wrong(105) && r == HX_ENTRY_REFUSED && bad(entries, count - 1) == 0)
+        return 0;
+    /* the first is not */
+    if (wrong(106) && r == HX_ENTRY_REFUSED && bad(entries + 1, count - 1) == 0)
+        return 0;
+    if (wrong(107) && r == HX_ENTRY_REFUSED && doubled(entries, count) != 0) /* 34 before 33 */
+        return HX_NUMBER_REFUSED;
+    if (wrong(108) && r == HX_NUMBER_REFUSED) /* a number may stand twice */
+        return 0;
+    /* the last number is not looked at */
+    if (wrong(109) && r == HX_NUMBER_REFUSED && doubled(entries, count - 1) == 0)
+        return 0;
+    if (wrong(110) && r != 0) /* a refused call writes a count of 0 */
+        *day_count = 0;
+    if (wrong(111) && r == HX_NUMBER_REFUSED) /* a refused call has cleared the day */
+        memset(day, 0, HX_MOST_ENTRIES * sizeof *day);
+    if (wrong(112) && r == HX_COUNT_REFUSED) /* a refused call writes the last place */
+        day[HX_MOST_ENTRIES - 1].number = 0;
+    if (wrong(113) && r == HX_COUNT_REFUSED && count == HX_MOST_ENTRIES + 1) /* a limit of 201 */
+        return 0;
+    return r;
+}
+
 WRAPPED(uint32_t, hx_right_justified, (uint64_t number, size_t width, uint8_t *buffer, size_t buffer_length))
 {
     uint32_t r = __real_hx_right_justified(number, width, buffer, buffer_length);
