@@ -25,8 +25,8 @@ pub const COUNT_REFUSED: u32 = 32;
 
 pub const ENTRY_REFUSED: u32 = 33;
 
-// A service: its entry number, the minute of the day at which it begins, and a name, which is the
-// first `length` bytes of `name`.
+// An entry of document 02, a service: its entry number, a minute of the day, and a name, which is
+// the first `length` bytes of `name`. The fields can hold what is refused.
 pub struct Entry {
     pub number: u32,
     pub minute: u16,
@@ -102,7 +102,8 @@ impl Entry {
         }
     }
 
-    // This entry comes before another: by minute, then by name, then by entry number.
+    // This entry comes before another (document 02: sorted by minute, then name by the unsigned
+    // order, then entry number).
     pub fn precedes(self, other: Entry) -> bool
         ensures { λ r. ⌜ r ≡ precedes self other ⌝ }
     {

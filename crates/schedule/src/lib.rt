@@ -16,7 +16,8 @@ ghost use Rattle.schedule.specs.Places.{entriesAt, Places};
 // Refusal number 34 of document 02: an entry number stands twice.
 pub const NUMBER_REFUSED: u32 = 34;
 
-// The first `count` entries; the other places are empty.
+// A day of document 02, held by value: the first `count` entries are those of the day, in their
+// order; the other places are zero.
 pub struct Day {
     pub entries: [Entry; entries::MOST_ENTRIES],
     pub count: usize,
@@ -137,7 +138,8 @@ fn put(places: &mut [u8; entries::MOST_ENTRIES], p: usize, n: usize, place: u8)
     places[p] = place;
 }
 
-// The places of the entries within the count, in the order of the day.
+// The places of the entries within the count, in the order of the day. An entry's place goes in
+// where halving finds that those before it end.
 fn places_of(entries: [Entry; entries::MOST_ENTRIES], count: usize) -> [u8; entries::MOST_ENTRIES]
     requires { ⌜ count ≤ mostEntries ⌝ }
     ensures { λ r. ⌜ Places (take count r) × (entriesAt entries (take count r) ≡ inserted (take count entries)) ⌝ }
