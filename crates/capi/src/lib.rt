@@ -4,8 +4,8 @@
 // A call that may be refused returns 0, or the number that refuses it. Next match returns 0 or 256,
 // for absent; a fill 257 for full, 256, or the number that refused or stopped it, and never 0. The
 // results are written through the caller's pointers, and a refused call writes nothing.
-// Operands and masks are sixteen bytes behind a pointer, texts a pointer and a length, the entries of
-// a day forty bytes each behind a pointer, and their count. What crosses is defined in
+// Operands and masks are sixteen bytes behind a pointer, texts a pointer and a length, the entries
+// of a day forty bytes each behind a pointer, and their count. What crosses is defined in
 // specs/Crossing.antt. This file has what several calls share.
 mod columns;
 mod day;

@@ -12,7 +12,7 @@ use Rattle.entries.specs.declared.Entry.{Entry}
 use Rattle.entries.specs.Entries.{precedes, noEntry}
 use Rattle.entries.proofs.Fills.{table-front}
 use Rattle.schedule.specs.Days.{insert, insertAll, inserted}
-use Rattle.schedule.specs.Places.{entriesAt, Places, no-place, and-place}
+use Rattle.schedule.specs.Places.{entriesAt, Places, no-place, and-place, Placed, PutAt}
 use Rattle.schedule.proofs.Lists.{take-more}
 use Rattle.schedule.proofs.Sorting.{goes-at, one-more, all-in-order, front, back, InOrder, empty}
 
@@ -98,12 +98,6 @@ module _ {day : List Entry} (s : InOrder day) (e : Entry) (low high m : ℕ) (h 
 
 -- ---- the loops
 
--- the places of the first i entries stand in the order of the day
-pub record Placed (es : List Entry) (ks : List ℕ) (i : ℕ) : Type 0 where
-  pub long : length ks ≡ 200
-  pub places : Places (take i ks)
-  pub in-place : entriesAt es (take i ks) ≡ inserted (take i es)
-
 -- where the halving for an entry e has got to
 abbrev pub Searched : List Entry → List ℕ → ℕ → Entry → ℕ → ℕ → Type 0
 Searched es ks i e low high = Halved (entriesAt es (take i ks)) e low high
@@ -131,19 +125,19 @@ module _ (es : List Entry) (ks : List ℕ) (i : ℕ) (p : Placed es ks i) (b : i
     search-down g = halved-down day-in-order e low high m s (omega (arith, day-long)) (answer false g)
 
   -- entry i goes in where the halving ended
-  pub placed-more : (ls : List ℕ) (at : ℕ) → i < length es → i < 200 → at ≤ i → length ls ≡ 200
-      → take (i + 1) ls ≡ take at ks ++ i ∷ drop at (take i ks) → Searched es ks i (getD es i noEntry) at at → Placed es ls (i + 1)
-  placed-more ls at h k u l e v =
+  pub placed-more : (ls : List ℕ) (at : ℕ) → i < length es → i < 200 → at ≤ i → PutAt ks ls at i i
+      → Searched es ks i (getD es i noEntry) at at → Placed es ls (i + 1)
+  placed-more ls at h k u w v =
       let day = entriesAt es (take i ks) in
       let x = getD es i noEntry in
       let q : take (i + 1) ls ≡ take at (take i ks) ++ i ∷ drop at (take i ks) =
-      e ∙ ap (λ (l : List ℕ). l ++ i ∷ drop at (take i ks)) (sym (take-take at i ks u)) in
+      w .front ∙ ap (λ (l : List ℕ). l ++ i ∷ drop at (take i ks)) (sym (take-take at i ks u)) in
       record {
-        long = l;
+        long = w .long;
         places = rw q (put-places at i k (p .places));
         in-place =
             ap (entriesAt es) q ∙ entries-put es (take i ks) at i
-            ∙ sym (goes-at noEntry x day at (omega (arith, day-long)) (v .below) (λ w. v .above at (omega arith) w))
+            ∙ sym (goes-at noEntry x day at (omega (arith, day-long)) (v .below) (λ t. v .above at (omega arith) t))
             ∙ ap (insert x) (p .in-place) ∙ sym (one-more [] (take i es) x) ∙ ap inserted (sym (take-more es i noEntry h));
       }
 

@@ -4,14 +4,13 @@
 // Public calls: `day_of` makes a day of entries, or tells the number that refuses them.
 use entries::Entry;
 ghost use mathlib.Core.Path.{_≡_};
-ghost use Prim.Native.Nat.{_+_, _≤_, _<_};
-ghost use mathlib.Core.List.{_∷_, _++_};
-ghost use lib.ListN.{drop, getD, length, take};
+ghost use Prim.Native.Nat.{_≤_};
+ghost use lib.ListN.{getD, length, take};
 ghost use lib.Dec.{eqb};
 ghost use Rattle.bits.specs.Bits.{anyBelow, tabulate};
 ghost use Rattle.entries.specs.Entries.{filled, mostEntries, noEntry};
-ghost use Rattle.schedule.specs.Days.{clearedFront, dayAnswer, dayRefusal, emptyDay, inserted, numberTwice};
-ghost use Rattle.schedule.specs.Places.{entriesAt, Places};
+ghost use Rattle.schedule.specs.Days.{clearedFront, dayAnswer, dayRefusal, emptyDay, numberTwice};
+ghost use Rattle.schedule.specs.Places.{entriesAt, Gatherable, Placed, PutAt, Room};
 
 // Refusal number 34 of document 02: an entry number stands twice.
 pub const NUMBER_REFUSED: u32 = 34;
@@ -126,9 +125,8 @@ fn wide(x: u8) -> usize
 
 // Puts a place into a list of n places, at p; those from p on move up by one.
 fn put(places: &mut [u8; entries::MOST_ENTRIES], p: usize, n: usize, place: u8)
-    requires { ⌜ (p ≤ n) × (n < mostEntries) × (length (now places) ≡ mostEntries) ⌝ }
-    ensures { λ _. ⌜ (length (now (places .exit)) ≡ mostEntries) × (take (n + 1) (now (places .exit))
-        ≡ take p (now (places .entry)) ++ place ∷ drop p (take n (now (places .entry)))) ⌝ }
+    requires { ⌜ Room (now places) p n ⌝ }
+    ensures { λ _. ⌜ PutAt (now (places .entry)) (now (places .exit)) p n place ⌝ }
 {
     let mut j = n;
     while p < j {
@@ -142,7 +140,7 @@ fn put(places: &mut [u8; entries::MOST_ENTRIES], p: usize, n: usize, place: u8)
 // where halving finds that those before it end.
 fn places_of(entries: [Entry; entries::MOST_ENTRIES], count: usize) -> [u8; entries::MOST_ENTRIES]
     requires { ⌜ count ≤ mostEntries ⌝ }
-    ensures { λ r. ⌜ Places (take count r) × (entriesAt entries (take count r) ≡ inserted (take count entries)) ⌝ }
+    ensures { λ r. ⌜ Placed entries r count ⌝ }
 {
     let mut places = [0u8; entries::MOST_ENTRIES];
     let mut i = 0;
@@ -172,7 +170,7 @@ fn gathered(
     places: [u8; entries::MOST_ENTRIES],
     count: usize,
 ) -> [Entry; entries::MOST_ENTRIES]
-    requires { ⌜ (count ≤ mostEntries) × Places (take count places) ⌝ }
+    requires { ⌜ Gatherable places count ⌝ }
     ensures { λ r. ⌜ r ≡ filled (entriesAt entries (take count places)) ⌝ }
 {
     let mut out = [Entry::empty(); entries::MOST_ENTRIES];

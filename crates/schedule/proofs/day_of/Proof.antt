@@ -35,7 +35,7 @@ places-of-requires : tie.Need-places-of-requires
 places-of-requires c κs = few (c .before)
 
 gathered-requires : tie.Need-gathered-requires
-gathered-requires c κs = (few (c .before .before), c .places-of .ensures .0)
+gathered-requires c κs = record { few = few (c .before .before); places = c .places-of .ensures .places }
 
 returns-2 : tie.Need-returns-2
 returns-2 c =
@@ -43,7 +43,7 @@ returns-2 c =
     let a = l .before .before .args in
     let clear = c .before .before .cleared in
     let places = c .before .places-of in
-    answer-accepted (a .entries) (a .count) (c .gathered .result) (clear .result) (take (a .count) (places .result)) (accepted l) (clear .ensures) (places .ensures .1) (c .gathered .ensures)
+    answer-accepted (a .entries) (a .count) (c .gathered .result) (clear .result) (take (a .count) (places .result)) (accepted l) (clear .ensures) (places .ensures .in-place) (c .gathered .ensures)
 
 pub day-of-spec : {M : Type 1} → statement M
 day-of-spec =

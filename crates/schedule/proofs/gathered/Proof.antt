@@ -22,7 +22,7 @@ abbrev μ-loop : tie.MeasureT-loop
 below : (c : tie.After-wide Inv-loop μ-loop) → c .wide .result < 200
 below c =
     let s = c .before .before .before .before in
-    place-below (s .args .t1) (s .args .t2) (s .args .count) (c .before .before .loop .i) (c .wide .result) (omega arith) (omega (arith, s .good .1 .0 .1 .0 .1, s .pre .0)) (c .wide .ensures) (s .pre .1)
+    place-below (s .args .t1) (s .args .t2) (s .args .count) (c .before .before .loop .i) (c .wide .result) (omega arith) (omega (arith, s .good .1 .0 .1 .0 .1, s .pre .few)) (c .wide .ensures) (s .pre .places)
 
 empty-requires : tie.Need-empty-requires Inv-loop μ-loop
 empty-requires c κs = search needs
@@ -59,7 +59,7 @@ loop-again c =
     let l = c .before .before .before .loop in
     let w = c .before .wide in
     let s = c .before .before .before .before .before in
-    (omega arith, filling-more 200 emptyEntry _ (l .out) (l .i) _ (omega (arith, s .pre .0)) (l .inv .1) (ap (λ (k : ℕ). getD (s .args .t1) k noEntry) (w .ensures)))
+    (omega arith, filling-more 200 emptyEntry _ (l .out) (l .i) _ (omega (arith, s .pre .few)) (l .inv .1) (ap (λ (k : ℕ). getD (s .args .t1) k noEntry) (w .ensures)))
 
 returns : tie.Need-returns Inv-loop μ-loop
 returns c =
@@ -67,7 +67,7 @@ returns c =
     let a = s .args in
     let l = c .before .loop in
     let e : l .i ≡ a .count = omega arith in
-    l .inv .1 ∙ rw e (filling-filled _ _) ∙ ap filled (entries-table (a .t1) (a .t2) (a .count) (omega (arith, s .good .1 .0 .1 .0 .1, s .pre .0)))
+    l .inv .1 ∙ rw e (filling-filled _ _) ∙ ap filled (entries-table (a .t1) (a .t2) (a .count) (omega (arith, s .good .1 .0 .1 .0 .1, s .pre .few)))
 
 pub gathered-spec : {M : Type 1} → statement M
 gathered-spec =

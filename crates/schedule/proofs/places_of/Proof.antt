@@ -5,7 +5,8 @@ use Prim.Native.Nat.{ℕ, _+_, _-_, _/_, _≤_, _<_}
 use mathlib.Core.Path.{_≡_, refl}
 use native.Mathlib.Omega.{arith}
 use borrow.Author.Needs.{needs}
-use Rattle.schedule.proofs.Places.{Placed, placed-none, placed-more, Searched, search-start, search-up, search-down, place-below}
+use Rattle.schedule.specs.Places.{Placed}
+use Rattle.schedule.proofs.Places.{placed-none, placed-more, Searched, search-start, search-up, search-down, place-below}
 use Rattle.schedule.proofs.places_of.Statement.{statement}
 use Rattle.schedule.proofs.places_of.Tie as tie
 
@@ -119,7 +120,7 @@ cast-put c = search needs
 put-requires : tie.Need-put-requires Inv-loop2 μ-loop2 Inv-loop μ-loop
 put-requires c κs =
     let l = at-loop (c .before .before) in
-    (omega arith, omega (arith, l .before .pre), l .loop .inv .1 .long)
+    record { at-most = omega arith; left = omega (arith, l .before .pre); long = l .loop .inv .1 .long }
 
 add-i : tie.Need-add-i Inv-loop2 μ-loop2 Inv-loop μ-loop
 add-i c = search needs
@@ -135,14 +136,14 @@ loop-again c =
     let q : m .loop2 .high ≡ m .loop2 .low = omega arith in (
       omega arith,
       placed-more (s .args .t1) (l .loop .places) (l .loop .i) (l .loop .inv .1) (few l) _ (m .loop2 .low) (omega (arith, s .pre, s .good .0 .1 .0 .1)) (omega (arith, s .pre)) (omega arith)
-          (c .put .ensures .0) (c .put .ensures .1) (rw q at (m .loop2 .inv .2)),
+          (c .put .ensures) (rw q at (m .loop2 .inv .2)),
     )
 
 returns : tie.Need-returns Inv-loop2 μ-loop2 Inv-loop μ-loop
 returns c =
     let l = c .before .loop in
     let e : l .i ≡ c .before .before .args .count = omega arith in
-    (rw e at (l .inv .1 .places), rw e at (l .inv .1 .in-place))
+    rw e at (l .inv .1)
 
 pub places-of-spec : {M : Type 1} → statement M
 places-of-spec =

@@ -50,7 +50,10 @@ returns c =
     let a = s .args in
     let l = c .before .loop in
     let e : l .j ≡ a .p = omega arith in
-    (simp length-set (l .inv .2 ∙ s .pre .2), moved-put 0 (a .places .now) (a .n) (omega arith) (l .places) (a .p) (a .place) (omega arith) (rw e at (l .inv .3)))
+    record {
+      long = simp length-set (l .inv .2 ∙ s .pre .long);
+      front = moved-put 0 (a .places .now) (a .n) (omega arith) (l .places) (a .p) (a .place) (omega arith) (rw e at (l .inv .3));
+    }
 
 pub put-spec : {M : Type 1} → statement M
 put-spec =
