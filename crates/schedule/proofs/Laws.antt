@@ -2,7 +2,7 @@
 use Prim.Native.Nat.{ℕ, _-_, _<_}
 use mathlib.Core.Path.{_≡_, refl, sym, ap, _∙_}
 use mathlib.Core.Bool.{Bool, false}
-use mathlib.Core.List.{List, []}
+use mathlib.Core.List.{List, [], Permᴰ·symm}
 use native.Mathlib.Omega.{arith}
 use lib.Dec.{eqb}
 use lib.ListN.{length, getD, take, drop, replicate}
@@ -18,7 +18,7 @@ use Rattle.entries.proofs.Tests.{any-at}
 use Rattle.schedule.specs.Days.{clearedFront, inserted, numberTwice, dayOf, dayAnswer}
 use Rattle.schedule.specs.Schedules.{Rearranged, Sorted, Accepted, IsDayOf, IsSchedule}
 use Rattle.schedule.proofs.Answers.{accepted-once, front-long}
-use Rattle.schedule.proofs.Sorting.{Unlike, Apart, apart-from, apart-moved, apart-at, same-day, all-in-order, all-rearranged, in-order-at, empty, length-kept, moved-back}
+use Rattle.schedule.proofs.Sorting.{Unlike, Apart, apart-from, apart-moved, apart-at, same-day, all-in-order, all-rearranged, in-order-at, empty, length-kept}
 
 none-each : (n : ℕ) (p : ℕ → Bool) → anyBelow n p ≡ false → (i : ℕ) → i < n → p i ≡ false
 none-each n p e i h = by-test (p i) (λ t. clash (any-at p n i h t) e) (λ t. t)
@@ -63,7 +63,7 @@ module _ (es : List Entry) (n : ℕ) (z : Accepted es n) where
   day-sorted : Sorted day
   day-sorted i j h k =
       by-test (precedes (getD day i noEntry) (getD day j noEntry)) (λ t. t)
-      (λ t. absurd (apart-at (apart-moved (moved-back (all-rearranged [] (clearedFront es n))) front-apart) i j h k
+      (λ t. absurd (apart-at (apart-moved (Permᴰ·symm (all-rearranged [] (clearedFront es n))) front-apart) i j h k
       (tied (getD day i noEntry) (getD day j noEntry) t (in-order-at noEntry (all-in-order (clearedFront es n) empty) i j h k) .2)))
 
   front-is : take n (filled day) ≡ day

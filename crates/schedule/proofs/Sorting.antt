@@ -1,9 +1,9 @@
 -- Insertion: the entries are in order and a rearrangement of what went in; entries with unlike
 -- numbers can go in in any order; and where an entry goes by its place. Assumes nothing.
 use Prim.Native.Nat.{ℕ, zero, suc, _≤_, _<_}
-use mathlib.Core.Path.{_≡_, refl, sym, ap, _∙_}
+use mathlib.Core.Path.{_≡_, refl, sym, ap, subst, _∙_}
 use mathlib.Core.Bool.{true, false}
-use mathlib.Core.List.{List, [], _∷_, _++_, append-nil}
+use mathlib.Core.List.{List, [], _∷_, _++_, append-nil, List·Permᴰ·nil, List·Permᴰ·cons, List·Permᴰ·swap, List·Permᴰ·trans, Permᴰ·refl, Permᴰ·symm, Permᴰ·append-right, Permᴰ·middle}
 use native.Mathlib.Omega.{arith}
 use lib.ListN.{length, getD, take, drop}
 use Rattle.bits.proofs.Below.{by-test}
@@ -11,7 +11,7 @@ use Rattle.entries.specs.declared.Entry.{Entry}
 use Rattle.entries.specs.Entries.{noEntry, precedes}
 use Rattle.entries.proofs.Order.{precedes-weak, tied, clash}
 use Rattle.schedule.specs.Days.{insert, insertAll}
-use Rattle.schedule.specs.Schedules.{Rearranged, none, keep, swap, then}
+use Rattle.schedule.specs.Schedules.{Rearranged}
 
 -- ---- one step of an insertion
 
@@ -62,44 +62,25 @@ all-in-order (e ∷ es) s = all-in-order es (insert-in-order e s)
 
 -- ---- a rearrangement
 
-pub unmoved : (xs : List Entry) → Rearranged xs xs
-unmoved [] = none
-unmoved (x ∷ xs) = keep x (unmoved xs)
-
 insert-rearranged : (e : Entry) (xs : List Entry) → Rearranged (insert e xs) (e ∷ xs)
-insert-rearranged e [] = rw (last e) (unmoved (e ∷ []))
+insert-rearranged e [] = rw (last e) (Permᴰ·refl (e ∷ []))
 insert-rearranged e (x ∷ xs) =
     by-test (precedes x e)
-    (λ t. rw (past e x xs t) (then (keep x (insert-rearranged e xs)) (swap x e xs)))
-    (λ t. rw (here e x xs t) (unmoved (e ∷ x ∷ xs)))
-
-with-more : {xs ys : List Entry} (zs : List Entry) → Rearranged xs ys → Rearranged (xs ++ zs) (ys ++ zs)
-with-more zs none = unmoved zs
-with-more zs (keep e r) = keep e (with-more zs r)
-with-more zs (swap e f xs) = swap e f (xs ++ zs)
-with-more zs (then r s) = then (with-more zs r) (with-more zs s)
-
-moved-in : (xs : List Entry) (e : Entry) (ys : List Entry) → Rearranged (e ∷ (xs ++ ys)) (xs ++ e ∷ ys)
-moved-in [] e ys = unmoved (e ∷ ys)
-moved-in (x ∷ xs) e ys = then (swap e x (xs ++ ys)) (keep x (moved-in xs e ys))
+    (λ t. rw (past e x xs t) (List·Permᴰ·trans (List·Permᴰ·cons refl (insert-rearranged e xs)) (List·Permᴰ·swap refl refl)))
+    (λ t. rw (here e x xs t) (Permᴰ·refl (e ∷ x ∷ xs)))
 
 pub all-rearranged : (day es : List Entry) → Rearranged (insertAll day es) (day ++ es)
 unfolding insertAll
-all-rearranged day [] = rw (append-nil day) (unmoved day)
+all-rearranged day [] = rw (append-nil day) (Permᴰ·refl day)
 all-rearranged day (e ∷ es) =
-    then (all-rearranged (insert e day) es) (then (with-more es (insert-rearranged e day)) (moved-in day e es))
-
-pub moved-back : {xs ys : List Entry} → Rearranged xs ys → Rearranged ys xs
-moved-back none = none
-moved-back (keep e r) = keep e (moved-back r)
-moved-back (swap e f xs) = swap f e xs
-moved-back (then r s) = then (moved-back s) (moved-back r)
+    List·Permᴰ·trans (all-rearranged (insert e day) es)
+    (List·Permᴰ·trans (Permᴰ·append-right es (insert-rearranged e day)) (Permᴰ·symm (Permᴰ·middle e day es)))
 
 pub length-kept : {xs ys : List Entry} → Rearranged xs ys → length xs ≡ length ys
-length-kept none = refl
-length-kept (keep e r) = ap suc (length-kept r)
-length-kept (swap e f xs) = refl
-length-kept (then r s) = length-kept r ∙ length-kept s
+length-kept List·Permᴰ·nil = refl
+length-kept (List·Permᴰ·cons e r) = ap suc (length-kept r)
+length-kept (List·Permᴰ·swap e f) = refl
+length-kept (List·Permᴰ·trans r s) = length-kept r ∙ length-kept s
 
 -- ---- unlike numbers
 
@@ -117,16 +98,17 @@ pub data Apart : List Entry → Type 0 where
   beside : {x : Entry} {xs : List Entry} → Each (Unlike x) xs → Apart xs → Apart (x ∷ xs)
 
 each-moved : {P : Entry → Type 0} {xs ys : List Entry} → Rearranged xs ys → Each P xs → Each P ys
-each-moved none no-more = no-more
-each-moved (keep e r) (and-each p n) = and-each p (each-moved r n)
-each-moved (swap e f xs) (and-each p (and-each q n)) = and-each q (and-each p n)
-each-moved (then r s) n = each-moved s (each-moved r n)
+each-moved List·Permᴰ·nil no-more = no-more
+each-moved {P} (List·Permᴰ·cons e r) (and-each p n) = and-each (subst P e p) (each-moved r n)
+each-moved {P} (List·Permᴰ·swap e f) (and-each p (and-each q n)) = and-each (subst P f q) (and-each (subst P e p) n)
+each-moved (List·Permᴰ·trans r s) n = each-moved s (each-moved r n)
 
 pub apart-moved : {xs ys : List Entry} → Rearranged xs ys → Apart xs → Apart ys
-apart-moved none alone = alone
-apart-moved (keep e r) (beside o a) = beside (each-moved r o) (apart-moved r a)
-apart-moved (swap e f xs) (beside (and-each p ps) (beside qs a)) = beside (and-each (λ q. p (sym q)) qs) (beside ps a)
-apart-moved (then r s) a = apart-moved s (apart-moved r a)
+apart-moved List·Permᴰ·nil alone = alone
+apart-moved (List·Permᴰ·cons {l₂ = ys} e r) (beside o a) = beside (subst (λ (z : Entry). Each (Unlike z) ys) e (each-moved r o)) (apart-moved r a)
+apart-moved (List·Permᴰ·swap {b = y} {b′ = x′} {l = l} e f) (beside (and-each p ps) (beside qs a)) =
+    subst (λ (z : Entry). Apart (z ∷ x′ ∷ l)) f (subst (λ (z : Entry). Apart (y ∷ z ∷ l)) e (beside (and-each (λ q. p (sym q)) qs) (beside ps a)))
+apart-moved (List·Permᴰ·trans r s) a = apart-moved s (apart-moved r a)
 
 -- by places
 each-from : {P : Entry → Type 0} (xs : List Entry) → ((i : ℕ) → i < length xs → P (getD xs i noEntry)) → Each P xs
@@ -187,11 +169,13 @@ insert-both x y o (z ∷ zs) =
 -- rearranged entries make one day
 pub same-day : {xs ys : List Entry} → Rearranged xs ys → Apart xs → (day : List Entry) → insertAll day xs ≡ insertAll day ys
 unfolding insertAll
-same-day none a day = refl
-same-day (keep e r) (beside o a) day = same-day r a (insert e day)
-same-day (swap e f xs) (beside (and-each p ps) a) day =
-    ap (λ (d : List Entry). insertAll d xs) (insert-both f e (λ q. p (sym q)) day)
-same-day (then r s) a day = same-day r a day ∙ same-day s (apart-moved r a) day
+same-day List·Permᴰ·nil a day = refl
+same-day (List·Permᴰ·cons {a = x} {l₂ = ys} e r) (beside o a) day =
+    same-day r a (insert x day) ∙ ap (λ (z : Entry). insertAll (insert z day) ys) e
+same-day (List·Permᴰ·swap {a = x} {b = y} {b′ = x′} {l = l} e f) (beside (and-each p ps) a) day =
+    ap (λ (d : List Entry). insertAll d l) (insert-both y x (λ q. p (sym q)) day)
+    ∙ ap (λ (z : Entry). insertAll (insert z (insert y day)) l) e ∙ ap (λ (z : Entry). insertAll (insert x′ (insert z day)) l) f
+same-day (List·Permᴰ·trans r s) a day = same-day r a day ∙ same-day s (apart-moved r a) day
 
 -- ---- where an entry goes
 

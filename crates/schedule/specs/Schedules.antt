@@ -5,19 +5,16 @@
 use Prim.Native.Nat.{ℕ, _-_, _<_}
 use mathlib.Core.Path.{_≡_}
 use mathlib.Core.Bool.{true, false}
-use mathlib.Core.List.{List, [], _∷_}
+use mathlib.Core.List.{List, List·Permᴰ}
 use lib.ListN.{length, getD, take, drop, replicate}
 use Rattle.entries.specs.declared.Entry.{Entry}
 use Rattle.entries.specs.Entries.{noEntry, emptyEntry, mostEntries, precedes}
 use Rattle.schedule.specs.declared.Day.{Day}
 use Rattle.schedule.specs.Days.{clearedFront, dayAnswer, dayRefusal}
 
--- one list is a rearrangement of the other: a permutation
-pub data Rearranged : List Entry → List Entry → Type 0 where
-  none : Rearranged [] []
-  keep : (e : Entry) {xs ys : List Entry} → Rearranged xs ys → Rearranged (e ∷ xs) (e ∷ ys)
-  swap : (e f : Entry) (xs : List Entry) → Rearranged (e ∷ f ∷ xs) (f ∷ e ∷ xs)
-  then : {xs ys zs : List Entry} → Rearranged xs ys → Rearranged ys zs → Rearranged xs zs
+-- one list is a rearrangement of the other: the library's permutation
+abbrev pub Rearranged : List Entry → List Entry → Type 0
+Rearranged xs ys = List·Permᴰ xs ys
 
 -- each entry comes before every later one
 abbrev pub Sorted : List Entry → Type 0
