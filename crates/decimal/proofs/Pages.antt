@@ -1,4 +1,4 @@
--- Bytes put on a page: columns and a line feed at its front, a line at its own byte, and a part of
+-- Bytes put on a page: columns and a byte after them at its front, a line at its own byte, and a part of
 -- the page that another call wrote. Assumes nothing.
 use Prim.Native.Nat.{ℕ, suc, _+_, _-_, _≤_, _<_}
 use mathlib.Core.Path.{_≡_, sym, ap, _∙_}
@@ -7,9 +7,9 @@ use lib.ListN.{length, getD, take, drop, set, length-append, length-drop}
 use lib.Seq.{take-all, drop-cons, drop-drop, drop-length, set-at, take-at, drop-append-add}
 use native.Mathlib.Omega.{arith}
 
--- a line feed after the columns
-pub feed-put : (columns b : List ℕ) (w : ℕ) → length columns ≡ w → w < length b → set (columns ++ drop w b) w 10 ≡ (columns ++ (10 ∷ [])) ++ drop (suc w) b
-feed-put columns b w e h = rw (drop-cons b w 0 h, set-at columns (getD b w 0) (drop (suc w) b) 10 w e, append-assoc)
+-- a byte x after the columns, as a space or a line feed
+pub byte-put : (columns b : List ℕ) (w x : ℕ) → length columns ≡ w → w < length b → set (columns ++ drop w b) w x ≡ (columns ++ (x ∷ [])) ++ drop (suc w) b
+byte-put columns b w x e h = rw (drop-cons b w 0 h, set-at columns (getD b w 0) (drop (suc w) b) x w e, append-assoc)
 
 -- bytes at the front leave the page as long as it was
 pub length-kept : (x b : List ℕ) (n : ℕ) → length x ≡ n → n ≤ length b → length (x ++ drop n b) ≡ length b

@@ -8,9 +8,9 @@ use native.Mathlib.Numerals.{add-one}
 use lib.Dec.{ltb}
 use lib.ListN.{length, getD, take}
 use lib.Seq.{take-all}
-use borrow.Author.Tests.{lt-ltb, le-ltb}
+use borrow.Author.Tests.{lt-ltb, le-ltb, ltb-false, eqb-false}
 use Rattle.bits.specs.Bits.{anyBelow}
-use Rattle.bits.proofs.Below.{by-order, or-true, any-more-below}
+use Rattle.bits.proofs.Below.{by-order, by-test, or-true, any-more-below}
 use Rattle.entries.specs.declared.Entry.{Entry}
 use Rattle.entries.specs.Entries.{badEntry, noEntry, formRefusal}
 
@@ -39,6 +39,19 @@ pub length-left : (e : Entry) → e .minute ≤ 1439 → ltb 32 (e .length) ≡ 
 unfolding badEntry
 length-left e h = rw (le-ltb 1439 (e .minute) h)
 
+-- an entry that is not bad has a minute of the day, and a name within 32
+good-parts : (s t : Bool) → (s || t) ≡ false → (s ≡ false) × (t ≡ false)
+good-parts true t e = absurd (eqb-false 0 0 e refl)
+good-parts false t e = (refl, e)
+
+pub good-minute : (e : Entry) → badEntry e ≡ false → e .minute ≤ 1439
+unfolding badEntry
+good-minute e h = ltb-false 1439 (e .minute) (good-parts (ltb 1439 (e .minute)) (ltb 32 (e .length)) h .0)
+
+pub good-length : (e : Entry) → badEntry e ≡ false → e .length ≤ 32
+unfolding badEntry
+good-length e h = ltb-false 32 (e .length) (good-parts (ltb 1439 (e .minute)) (ltb 32 (e .length)) h .1)
+
 -- ---- the number
 
 module _ (es : List Entry) (n : ℕ) where
@@ -56,6 +69,14 @@ module _ (es : List Entry) (n : ℕ) where
   pub none-bad : n ≤ 200 → anyBelow n badAt ≡ false → formRefusal es n ≡ 0
   unfolding formRefusal
   none-bad h e = rw (le-ltb 200 n h, e)
+
+  -- accepted, the count is within 200 and no entry is bad
+  pub form-count : formRefusal es n ≡ 0 → n ≤ 200
+  form-count e = by-order 200 n (λ h. absurd (let f : formRefusal es n ≡ 32 = too-many h in omega arith)) (λ h. h)
+
+  pub form-good : formRefusal es n ≡ 0 → (i : ℕ) → i < n → badAt i ≡ false
+  form-good e i u =
+      by-test (badAt i) (λ t. absurd (let f : formRefusal es n ≡ 33 = one-bad i (form-count e) u t in omega arith)) (λ t. t)
 
 -- ---- a name cut at 32 bytes is the name
 

@@ -10,12 +10,12 @@ use native.Mathlib.Omega.{arith}
 use borrow.Author.Tests.{lt-ltb, le-ltb}
 use Rattle.decimal.specs.Decimal.{column, refusalOf, written}
 use Rattle.decimal.proofs.Columns.{length-column, refuses, writes, written-refused}
-use Rattle.decimal.proofs.Pages.{feed-put, tail, past-tail}
+use Rattle.decimal.proofs.Pages.{byte-put, tail, past-tail}
 use Rattle.report.specs.Report.{numberLine, refusalLine, totalsLine}
 
 pub number-put : (n : ℕ) (b : List ℕ) → n < 100000000 → 9 ≤ length b → set (written n 8 b) 8 10 ≡ numberLine n ++ drop 9 b
 unfolding numberLine
-number-put n b h g = rw (writes n 8 b h (omega arith) (omega arith) (omega arith)) (feed-put (column n 8) b 8 (length-column n 8 h (omega arith)) (omega arith))
+number-put n b h g = rw (writes n 8 b h (omega arith) (omega arith) (omega arith)) (byte-put (column n 8) b 8 10 (length-column n 8 h (omega arith)) (omega arith))
 
 -- the totals, in the columns after the matches' and then the line feed; `b` is the page before, `c`
 -- with the matches written
@@ -37,7 +37,7 @@ module _ (m k : ℕ) (b c : List ℕ) (e : c ≡ written m 8 b) (h : m < 1000000
   totals-put d f =
       let l : length (column m 8 ++ column k 10) ≡ 18 = rw (length-append, length-column m 8 h (omega arith), length-column k 10 g (omega arith)) in
       let t : take 8 c ≡ column m 8 = ap (take 8) front ∙ take-at (column m 8) (drop 8 b) 8 (length-column m 8 h (omega arith)) in
-      rw (t, f, compares-written, past-tail c 8, append-nil, ← append-assoc (column m 8) (column k 10) (drop 18 b)) (feed-put (column m 8 ++ column k 10) b 18 l (omega arith))
+      rw (t, f, compares-written, past-tail c 8, append-nil, ← append-assoc (column m 8) (column k 10) (drop 18 b)) (byte-put (column m 8 ++ column k 10) b 18 10 l (omega arith))
 
 -- ---- the line of a refusal, over a line of spaces
 

@@ -11,7 +11,7 @@ use Rattle.bits.proofs.Below.{by-order, by-test}
 use Rattle.bits.proofs.Lists.{length-tabulate}
 use Rattle.entries.specs.declared.Entry.{Entry}
 use Rattle.entries.specs.Entries.{filled, formRefusal, clearedEntry, noEntry}
-use Rattle.entries.proofs.Tests.{too-many}
+use Rattle.entries.proofs.Tests.{too-many, form-count}
 use Rattle.schedule.specs.declared.Day.{Day}
 use Rattle.schedule.specs.declared.DayAnswer.{DayAnswer}
 use Rattle.schedule.specs.Days.{clearedFront, inserted, numberTwice, dayRefusal, dayOf, emptyDay, dayAnswer}
@@ -40,11 +40,8 @@ module _ (es : List Entry) (n : ℕ) where
   accepted-once z =
       by-test (numberTwice es n) (λ t. absurd (let e : dayRefusal es n ≡ 34 = refused-twice (accepted-form z) t in omega arith)) (λ t. t)
 
-  pub form-count : formRefusal es n ≡ 0 → n ≤ 200
-  form-count e = by-order 200 n (λ h. absurd (let f : formRefusal es n ≡ 32 = too-many es n h in omega arith)) (λ h. h)
-
   pub accepted-count : dayRefusal es n ≡ 0 → n ≤ 200
-  accepted-count z = form-count (accepted-form z)
+  accepted-count z = form-count es n (accepted-form z)
 
   -- a count above 200, whatever the entries are
   pub many-refused : 200 < n → dayAnswer es n .refusal ≡ 32

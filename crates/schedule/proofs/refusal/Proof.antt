@@ -3,7 +3,8 @@ use mathlib.Core.Path.{_≡_, sym, _∙_}
 use native.Mathlib.Omega.{arith}
 use borrow.Author.Needs.{needs}
 use Rattle.entries.specs.Entries.{formRefusal}
-use Rattle.schedule.proofs.Answers.{form-count, not-refused, refused-by-form, refused-twice}
+use Rattle.entries.proofs.Tests.{form-count}
+use Rattle.schedule.proofs.Answers.{not-refused, refused-by-form, refused-twice}
 use Rattle.schedule.proofs.refusal.Statement.{statement}
 use Rattle.schedule.proofs.refusal.Tie as tie
 
