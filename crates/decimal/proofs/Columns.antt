@@ -1,6 +1,6 @@
 -- The laws of a refusal, a column and a written buffer. A caller that knows `n < 10 ^ w` uses
 -- `accepts`, `writes` or `fills`, and `length-column`. Assumes nothing.
-use Prim.Native.Nat.{ℕ, _^_, _≤_, _<_}
+use Prim.Native.Nat.{ℕ, zero, suc, _-_, _^_, _≤_, _<_}
 use mathlib.Core.Path.{_≡_, refl, sym, ap, _∙_}
 use mathlib.Core.Bool.{Bool, true, false, _||_}
 use mathlib.Core.List.{List, _++_, append-nil}
@@ -8,10 +8,10 @@ use mathlib.Core.Logic.{by-cases}
 use native.Mathlib.Decide.{ℕ-discrete, decLt}
 use native.Mathlib.Omega.{arith}
 use lib.Dec.{eqb, ltb}
-use lib.ListN.{length, drop, length-append, length-drop, length-replicate, drop-of-length-le}
+use lib.ListN.{length, drop, replicate, length-append, length-drop, length-replicate, drop-of-length-le}
 use borrow.Author.Tests.{lt-ltb, le-ltb, ne-eqb}
-use Rattle.decimal.specs.Decimal.{digits, column, refusalFor, refusalOf, written}
-use Rattle.decimal.proofs.Digits.{some-digit, fits-width, fits-not}
+use Rattle.decimal.specs.Decimal.{digits, column, refusalFor, refusalOf, written, value}
+use Rattle.decimal.proofs.Digits.{some-digit, fits-width, fits-not, value-digits}
 
 -- ---- refusals, of a number of k digits
 
@@ -76,6 +76,15 @@ column-length n w h = rw (length-append, length-replicate) (omega arith)
 
 pub length-column : (n w : ℕ) → n < 10 ^ w → 0 < w → length (column n w) ≡ w
 length-column n w h p = column-length n w (fits-width w n p h)
+
+-- read back, a column stands for its number: a space counts as nothing
+value-spaced : (k : ℕ) (ds : List ℕ) → value (replicate k 32 ++ ds) ≡ value ds
+value-spaced zero ds = refl
+value-spaced (suc k) ds = value-spaced k ds
+
+pub value-column : (n w : ℕ) → value (column n w) ≡ n
+unfolding column
+value-column n w = value-spaced (w - length (digits n)) (digits n) ∙ value-digits n
 
 pub written-accepted : (n w : ℕ) (buffer : List ℕ) → refusalOf n w (length buffer) ≡ 0 → written n w buffer ≡ column n w ++ drop w buffer
 unfolding written

@@ -3,8 +3,11 @@ use Prim.Native.Nat.{ℕ, _*_, _≤_, _<_}
 use mathlib.Core.Path.{_≡_, sym, _∙_}
 use mathlib.Core.List.{List}
 use native.Mathlib.Omega.{arith}
+use mathlib.Core.Logic.{by-cases}
+use native.Mathlib.Decide.{ℕ-discrete}
 use lib.ListN.{length}
 use borrow.Author.Tests.{lt-ltb, le-ltb, eq-eqb, ne-eqb}
+use Rattle.bits.proofs.Below.{by-order}
 use Rattle.entries.specs.declared.Entry.{Entry}
 use Rattle.entries.specs.Entries.{formRefusal}
 use Rattle.entries.proofs.Tests.{too-many}
@@ -30,6 +33,14 @@ module _ (es : List Entry) (n : ℕ) where
   pub not-refused : (room : ℕ) → formRefusal es n ≡ 0 → 50 * n ≤ room → pageRefusal es n room ≡ 0
   unfolding pageRefusal
   not-refused room e h = rw (eq-eqb (formRefusal es n) 0 e, le-ltb room (50 * n) h)
+
+  -- accepted, each test was passed
+  pub accepted-form : (room : ℕ) → pageRefusal es n room ≡ 0 → formRefusal es n ≡ 0
+  accepted-form room z = by-cases (ℕ-discrete (formRefusal es n) 0) (λ e. e) (λ h. sym (refused-by-form room h) ∙ z)
+
+  pub accepted-room : (room : ℕ) → pageRefusal es n room ≡ 0 → 50 * n ≤ room
+  accepted-room room z =
+      by-order room (50 * n) (λ h. absurd (omega (arith, z, refused-by-page room (accepted-form room z) h))) (λ h. h)
 
   -- ---- the page
 
