@@ -1,10 +1,9 @@
-// The day of a list of entries, and the wall page of one.
+// The day of a list of entries.
 use schedule::DayAnswer;
 ghost use mathlib.Core.Path.{_≡_};
 ghost use lib.ListN.{length};
 ghost use Rattle.layout.specs.Layout.{entriesOf};
 ghost use Rattle.schedule.specs.Days.{dayAnswer};
-ghost use Rattle.wall_page.specs.Pages.{DayPage};
 ghost use Rattle.capi.specs.Crossing.{DayGiven};
 
 // Hands a day to the caller.
@@ -41,18 +40,4 @@ pub extern "C" fn hx_day_of_parts(
         return entries::COUNT_REFUSED;
     }
     give_day(schedule::day_of(layout::entries_of(entries), n), day, count)
-}
-
-// The wall page of these entries, each in forty bytes. More than 200 are refused before one is
-// read.
-#[no_mangle]
-pub extern "C" fn hx_day_page(entries: &[[u8; layout::ENTRY_BYTES]], page: &mut [u8]) -> u32
-    ensures { λ r. ⌜ DayPage (entriesOf (now (entries .entry))) (length (now (entries .entry)))
-        (now (page .entry)) (now (page .exit)) r ⌝ }
-{
-    let n = entries.len();
-    if n > entries::MOST_ENTRIES {
-        return entries::COUNT_REFUSED;
-    }
-    wall_page::day_page(layout::entries_of(entries), n, page)
 }

@@ -1,5 +1,6 @@
-// The C interface: the calls of `pcmpstr`, `search`, `spans`, `orders`, `schedule`, `decimal` and
-// `report` under names that begin with `hx_`, for C and Rust to link (include/hirtxonda.h).
+// The C interface: the calls of `pcmpstr`, `search`, `spans`, `orders`, `schedule`, `wall_page`,
+// `decimal` and `report` under names that begin with `hx_`, for C and Rust to link
+// (include/hirtxonda.h).
 //
 // A call that may be refused returns 0, or the number that refuses it. Next match returns 0 or 256,
 // for absent; a fill 257 for full, 256, or the number that refused or stopped it, and never 0. The
@@ -11,6 +12,7 @@ mod columns;
 mod day;
 mod instructions;
 mod order;
+mod page;
 mod span;
 mod walk;
 

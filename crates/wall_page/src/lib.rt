@@ -19,7 +19,7 @@ pub const PAGE_REFUSED: u32 = 35;
 
 // The bytes of a line: the number's columns, the time, the name's columns, a space after each of
 // the first two, and a line feed.
-pub const LINE_BYTES: usize = 50;
+pub const DAY_LINE: usize = 50;
 
 // The columns of a number, which has at most ten digits; where the time begins; where the name
 // begins, and where it ends.
@@ -106,7 +106,7 @@ fn put_lines(entries: [Entry; entries::MOST_ENTRIES], count: usize, page: &mut [
     let mut r = 0;
     while r < count {
         let e = entries[r];
-        put_line(e, &mut page[LINE_BYTES * r..]);
+        put_line(e, &mut page[DAY_LINE * r..]);
         r += 1;
     }
 }
@@ -121,7 +121,7 @@ pub fn day_page(entries: [Entry; entries::MOST_ENTRIES], count: usize, page: &mu
     if refused != 0 {
         return refused;
     }
-    if page.len() < LINE_BYTES * count {
+    if page.len() < DAY_LINE * count {
         return PAGE_REFUSED;
     }
     put_lines(entries, count, page);

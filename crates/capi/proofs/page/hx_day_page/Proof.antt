@@ -9,8 +9,8 @@ use Rattle.entries.specs.declared.Entry.{Entry}
 use Rattle.layout.specs.Layout.{entriesOf}
 use Rattle.wall_page.specs.Pages.{DayPage}
 use Rattle.wall_page.proofs.Answers.{many-refused, refused}
-use Rattle.capi.proofs.day.hx_day_page.Statement.{statement}
-use Rattle.capi.proofs.day.hx_day_page.Tie as tie
+use Rattle.capi.proofs.page.hx_day_page.Statement.{statement}
+use Rattle.capi.proofs.page.hx_day_page.Tie as tie
 
 returns : tie.Need-returns
 returns c =
