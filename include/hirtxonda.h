@@ -1,7 +1,7 @@
 /*
  * Hirtxonda for C and C++: a proved software model of the processor's SSE4.2 string compares, a
- * search over it, leading runs, the order of two texts, the running order of a day, and decimal
- * columns.
+ * search over it, leading runs, the order of two texts, the running order of a day and its page for
+ * the wall, and decimal columns.
  *
  * Link with target/staticlib/libcapi.a, which `rt staticlib capi` proves and builds. The library
  * needs memcpy and memset and nothing else. It has no state, takes no memory but the stack, and may
@@ -58,6 +58,7 @@ extern "C" {
 #define HX_COUNT_REFUSED 32u     /* a day of more than 200 entries */
 #define HX_ENTRY_REFUSED 33u     /* an entry with a minute above 1,439 or a name above 32 bytes */
 #define HX_NUMBER_REFUSED 34u    /* a day with an entry number that stands twice */
+#define HX_PAGE_REFUSED 35u      /* a day's page shorter than 50 bytes for each entry */
 
 /* ---- limits ---- */
 
@@ -69,9 +70,10 @@ extern "C" {
 #define HX_MOST_ENTRIES 200u /* of a day */
 #define HX_LAST_MINUTE 1439u /* of an entry */
 #define HX_LONGEST_NAME 32u  /* bytes, of an entry */
+#define HX_DAY_LINE 50u      /* the bytes of an entry's line on the page of a day */
 #define HX_WIDEST_COLUMN 20u
 #define HX_LONGEST_INPUT 65536u
-#define HX_LONGEST_REPORT 589843u /* the bytes of a page: enough for the report of every input */
+#define HX_LONGEST_REPORT 589843u /* the bytes of a report's page: enough for every input */
 #define HX_NUMBER_LINE 9u         /* the bytes of a line with one number and its line feed */
 
 /* ---- the string compare unit ----
@@ -317,6 +319,41 @@ static inline uint32_t hx_day_of(const hx_entry *entries, size_t count, hx_day *
 {
     return hx_day_of_parts(entries, count, day->entries, &day->count);
 }
+
+/* ---- the page of a day ----
+ *
+ * The page that goes up on the wall: a line for each entry, in the order in which the entries are
+ * handed over. Of a day that is its running order:
+ *
+ *     hx_entry entries[2] = {{8, 630, 5, "SMITH"}, {7, 545, 5, "OTWAY"}};
+ *     hx_day day;
+ *     uint8_t page[HX_MOST_ENTRIES * HX_DAY_LINE];
+ *     uint32_t status = hx_day_of(entries, 2, &day);
+ *     if (status == 0)
+ *         status = hx_day_page(day.entries, day.count, page, sizeof page);
+ *     if (status == 0)
+ *         fwrite(page, HX_DAY_LINE, day.count, stdout);
+ *     else
+ *         printf("refused with number %" PRIu32 "\n", status);
+ *
+ * It prints, with spaces after each name:
+ *
+ *              7 09:05 OTWAY
+ *              8 10:30 SMITH
+ *
+ * A line has the entry number in decimal, right-justified in 10 bytes, a space, the time as two
+ * digits, a colon and two digits, a space, the name in 32 bytes with spaces after it, and a line
+ * feed. A byte of the name that is not in 32 to 126 prints as a question mark.
+ */
+
+/* Writes to the page the lines of the first `count` entries, that of entry r from byte
+ * HX_DAY_LINE * r on; the bytes after the last line stay. Nothing is sorted, and a number may stand
+ * twice. What stands past a name's length is not printed, and no entry past the count is read.
+ * It returns 0, or, tested in this order,
+ *   HX_COUNT_REFUSED: the count is above HX_MOST_ENTRIES; no entry is read;
+ *   HX_ENTRY_REFUSED: an entry has a minute above HX_LAST_MINUTE or a length above HX_LONGEST_NAME;
+ *   HX_PAGE_REFUSED: the page is shorter than HX_DAY_LINE * count. */
+uint32_t hx_day_page(const hx_entry *entries, size_t count, uint8_t *page, size_t page_length);
 
 /* ---- columns and the report ---- */
 

@@ -7,14 +7,14 @@
 //! themselves.
 //!
 //! Texts are slices of bytes or of 16-bit words ([`Element`]). A [`Day`] has the services of a day
-//! in their running order. Bad input is refused by a listed number, a [`Refusal`], and nothing is
-//! changed.
+//! in their running order, and [`Day::page`] is its page for the wall. Bad input is refused by a
+//! listed number, a [`Refusal`], and nothing is changed.
 //!
 //! # Example
 //!
 //! Where does `AB` stand in `ABZAB`, and where in its first four bytes? Where does `ABC` stand in
 //! one block of sixteen bytes? Where do the letters of a line end? Which of two services at 10:30
-//! is the first?
+//! is the first, and what is its line on the wall?
 //!
 //! ```
 //! use hirtxonda::{matches, matches_until, pcmpestri, range_span, Day, Entry, Refusal, Signedness};
@@ -34,6 +34,7 @@
 //!
 //! let day = Day::of(&[Entry::new(3, 630, b"SMITH"), Entry::new(8, 630, b"JONES")])?;
 //! assert_eq!(day.entries()[0].name(), b"JONES");
+//! assert!(day.page().starts_with("         8 10:30 JONES   "));
 //! # Ok(())
 //! # }
 //! ```
@@ -45,6 +46,7 @@ mod unit;
 mod search;
 mod text;
 mod schedule;
+mod wall_page;
 mod report;
 mod raw;
 #[cfg(target_arch = "x86_64")]
@@ -59,3 +61,4 @@ pub use unit::{
     pcmpestri, pcmpestri_0c, pcmpestri_0d, pcmpestri_18, pcmpestri_19, pcmpestrm, pcmpistri, pcmpistrm, Flags,
     IndexAnswer, MaskAnswer,
 };
+pub use wall_page::{day_page, day_page_text, DAY_LINE};

@@ -106,6 +106,7 @@ extern "C" {
     #[allow(dead_code)] // a fresh cursor needs no call
     pub fn hx_cursor_fresh(cursor: *mut Cursor, stop: u64);
     pub fn hx_day_of_parts(entries: *const Entry, count: usize, day: *mut Entry, day_count: *mut u64) -> u32;
+    pub fn hx_day_page(entries: *const Entry, count: usize, page: *mut u8, page_length: usize) -> u32;
     pub fn hx_right_justified(number: u64, width: usize, buffer: *mut u8, buffer_length: usize) -> u32;
     pub fn hx_report(input: *const u8, input_length: usize, page: *mut u8, written: *mut usize) -> u32;
     pub fn hx_refusal_line(number: u32, line: *mut u8);

@@ -63,6 +63,7 @@ refusals! {
     Count = 32, "the day has more than 200 entries";
     Entry = 33, "an entry has a minute above 1,439 or a name of more than 32 bytes";
     Number = 34, "an entry number stands twice";
+    Page = 35, "the page is shorter than 50 bytes for each entry";
 }
 
 impl Refusal {

@@ -36,7 +36,7 @@ pub const LAST_MINUTE: u16 = 1439;
 pub const LONGEST_NAME: usize = 32;
 
 /// A service: its entry number, the minute of the day, and a name of bytes. Any numbers and bytes
-/// may stand here; [`Day::of`] accepts or refuses each entry.
+/// may stand here; [`Day::of`] and [`day_page`](crate::day_page) accept or refuse each entry.
 ///
 /// Two entries are equal where all their bytes are, also those past the name's length. In a [`Day`]
 /// these are zero.

@@ -34,7 +34,7 @@ fn written<T: Copy + PartialEq + std::fmt::Debug>(sentinel: T, call: impl FnOnce
 #[test]
 fn listed_numbers() {
     let listed: Vec<u32> = (0..1000).filter(|&number| Refusal::from_number(number).is_some()).collect();
-    assert_eq!(listed, [1, 2, 3, 4, 5, 6, 7, 8, 21, 22, 23, 24, 31, 32, 33, 34]);
+    assert_eq!(listed, [1, 2, 3, 4, 5, 6, 7, 8, 21, 22, 23, 24, 31, 32, 33, 34, 35]);
     for number in listed {
         let refusal = Refusal::from_number(number).unwrap();
         assert_eq!(refusal.number(), number);
@@ -51,7 +51,7 @@ fn header() {
         let value = line.split_whitespace().nth(2).unwrap().trim_start_matches("UINT64_C(");
         value.trim_end_matches([')', 'u']).parse::<usize>().expect(name)
     };
-    assert_eq!(header.lines().filter(|line| line.starts_with("#define HX_") && line.contains("_REFUSED ")).count(), 16);
+    assert_eq!(header.lines().filter(|line| line.starts_with("#define HX_") && line.contains("_REFUSED ")).count(), 17);
     for number in (0..100).filter_map(Refusal::from_number) {
         let name = format!("{number:?}_REFUSED").to_uppercase();
         assert_eq!(defined(&name), number.number() as usize);
@@ -64,6 +64,7 @@ fn header() {
     assert_eq!(defined("MOST_ENTRIES"), hirtxonda::MOST_ENTRIES);
     assert_eq!(defined("LAST_MINUTE"), usize::from(hirtxonda::LAST_MINUTE));
     assert_eq!(defined("LONGEST_NAME"), hirtxonda::LONGEST_NAME);
+    assert_eq!(defined("DAY_LINE"), hirtxonda::DAY_LINE);
     assert_eq!(defined("WIDEST_COLUMN"), hirtxonda::WIDEST_COLUMN);
     assert_eq!(defined("LONGEST_INPUT"), hirtxonda::LONGEST_INPUT);
     assert_eq!(defined("LONGEST_REPORT"), hirtxonda::LONGEST_REPORT);
@@ -407,6 +408,34 @@ fn days() {
     }
 }
 
+/// Every set of conditions out of 32, 33 and 35: the first number is given, and the page stays.
+/// Where none holds, the lines are written and the byte after them stays. All entries have one
+/// number, which refuses nothing.
+#[test]
+fn pages() {
+    const LINES: usize = hirtxonda::MOST_ENTRIES;
+    const PAGE: usize = LINES * hirtxonda::DAY_LINE;
+    for conditions in 0..8u32 {
+        let past = |condition: u32| (conditions >> condition & 1) as u16;
+        let good = raw::Entry { number: 1, minute: hirtxonda::LAST_MINUTE, length: 32, name: [0x41; 32] };
+        for (minute, length) in [(past(1), 0), (0, past(1)), (past(1), past(1))] {
+            let mut entries = vec![good; LINES + 1];
+            entries[LINES - 1].minute += minute;
+            entries[0].length += length;
+            let count = LINES + usize::from(past(0));
+            // SAFETY: see `controls`.
+            let (number, page) = written([BYTE; PAGE + 1], |p| unsafe {
+                hx_day_page(entries.as_ptr(), count, p.cast(), PAGE - usize::from(past(2)))
+            });
+            let expected = *[32, 33, 35].get(conditions.trailing_zeros() as usize).unwrap_or(&0);
+            assert_eq!(number, expected, "conditions {conditions:03b}");
+            let lines = format!("         1 23:59 {}\n", "A".repeat(32)).repeat(LINES);
+            assert!(number > 0 || page[..PAGE] == *lines.as_bytes());
+            assert_eq!(page[PAGE], BYTE);
+        }
+    }
+}
+
 /// A length above its limit is refused before any element is read: here it is far longer than what
 /// stands behind the pointer.
 #[test]
@@ -436,6 +465,9 @@ fn refused_lengths_are_not_read() {
             let mut day = [entry; hirtxonda::MOST_ENTRIES];
             assert_eq!(written(7, |p| hx_day_of_parts(&entry, huge, day.as_mut_ptr(), p)).0, 32);
             assert!(day.iter().all(|&place| place == entry));
+            let mut line = [BYTE; hirtxonda::DAY_LINE];
+            assert_eq!(hx_day_page(&entry, huge, line.as_mut_ptr(), line.len()), 32);
+            assert_eq!(line, [BYTE; hirtxonda::DAY_LINE]);
             let mut page = vec![BYTE; LONGEST_REPORT];
             assert_eq!(written(7, |p| hx_report(byte.as_ptr(), huge, page.as_mut_ptr(), p)).0, 7);
             assert!(page.iter().all(|&byte| byte == BYTE));

@@ -1,6 +1,7 @@
 // Times the proved search and the proved unit beside the processor's own instructions, the C
-// library's memmem and a plain loop, and the proved running order of a day beside the C library's
-// qsort. tests/bench/run builds it, runs it and makes the tables.
+// library's memmem and a plain loop, the proved running order of a day beside the C library's
+// qsort, and its proved page beside snprintf. tests/bench/run builds it, runs it and makes the
+// tables.
 //
 //   bench search ROUNDS      a line for each case: all contenders, in turn, in one process
 //   bench real ROUNDS        a line for each case: the real walk alone, for a run under an emulator
@@ -12,12 +13,15 @@
 //                            are left out
 //   bench entries ROUNDS     one compare at 0Ch and at 18h, block after block
 //   bench day ROUNDS         a line for each kind of day: the proved call and qsort
+//   bench page ROUNDS        a line for each kind of page: the proved call and snprintf
 //
 // Times are the least of the rounds, in nanoseconds. In `search` each contender's matches are
 // checked against the proved search's, and so are the compares of every walk, in `stops` too. There
-// the lines have ratios. In `day` both must give the same entries in the same order.
+// the lines have ratios. In `day` both must give the same entries in the same order, in `page` the
+// same bytes.
 #define _GNU_SOURCE
 #include <immintrin.h>
+#include <inttypes.h>
 #include <setjmp.h>
 #include <signal.h>
 #include <stdint.h>
@@ -754,9 +758,67 @@ static void time_day(int rounds) {
     }
 }
 
+// ---- the page of a day
+
+enum { LETTERS, LONGEST, UNPRINTABLE, NAMELESS, PAGES };
+
+// names of 5 to 20 letters, of 32, of 5 to 20 bytes of which some print as a question mark, or none
+static void make_entries(hx_entry *day, int kind) {
+    for (uint32_t i = 0; i < HX_MOST_ENTRIES; i++) {
+        hx_entry *e = &day[i];
+        e->number = draw(1000000);
+        e->minute = (uint16_t)draw(HX_LAST_MINUTE + 1);
+        e->length = (uint16_t)(kind == NAMELESS ? 0 : kind == LONGEST ? HX_LONGEST_NAME : 5 + draw(16));
+        for (uint32_t j = 0; j < HX_LONGEST_NAME; j++) e->name[j] = (uint8_t)(kind == UNPRINTABLE ? draw(256) : 'A' + draw(26));
+    }
+}
+
+// What a programmer would write: a call a line. The zero after each line is where the next one
+// begins, so the page has a byte more. Where all names are printable, they are handed over as they
+// are.
+__attribute__((noinline)) static void print_page(const hx_entry *day, int printable, char *page, size_t room) {
+    for (uint32_t r = 0; r < HX_MOST_ENTRIES; r++, page += HX_DAY_LINE, room -= HX_DAY_LINE) {
+        const hx_entry *e = &day[r];
+        const uint8_t *name = e->name;
+        uint8_t seen[HX_LONGEST_NAME];
+        if (!printable) {
+            for (int j = 0; j < e->length; j++) seen[j] = name[j] >= 32 && name[j] <= 126 ? name[j] : '?';
+            name = seen;
+        }
+        snprintf(page, room, "%10" PRIu32 " %02u:%02u %-32.*s\n", e->number, e->minute / 60u, e->minute % 60u, e->length, (const char *)name);
+    }
+}
+
+static void time_page(int rounds) {
+    static const char *names[PAGES] = {"names of 5 to 20 letters", "names of 32 letters", "names of 5 to 20 bytes, any", "no names"};
+    static uint8_t proved[DAYS][HX_MOST_ENTRIES * HX_DAY_LINE];
+    static char printed[DAYS][HX_MOST_ENTRIES * HX_DAY_LINE + 1];
+    for (int kind = LETTERS; kind < PAGES; kind++) {
+        double best[2] = {1e300, 1e300};
+        for (int k = 0; k < DAYS; k++) make_entries(days[k], kind);
+        for (int r = 0; r < rounds; r++) {
+            double t = now();
+            uint32_t wrong = 0;
+            for (int k = 0; k < DAYS; k++) wrong |= hx_day_page(days[k], HX_MOST_ENTRIES, proved[k], sizeof proved[k]);
+            t = now() - t;
+            if (t < best[0]) best[0] = t;
+            t = now();
+            for (int k = 0; k < DAYS; k++) print_page(days[k], kind != UNPRINTABLE, printed[k], sizeof printed[k]);
+            t = now() - t;
+            if (t < best[1]) best[1] = t;
+            for (int k = 0; k < DAYS; k++) wrong |= memcmp(proved[k], printed[k], sizeof proved[k]) != 0;
+            if (wrong) {
+                fprintf(stderr, "bench: %s: the page is refused, or not what snprintf makes\n", names[kind]);
+                exit(1);
+            }
+        }
+        printf("%s\t%.0f\t%.0f\n", names[kind], best[0] / DAYS, best[1] / DAYS);
+    }
+}
+
 int main(int argc, char **argv) {
     if (argc != 3) {
-        fprintf(stderr, "usage: bench search|real|stops|growth|unit|real-unit|entries|day ROUNDS\n");
+        fprintf(stderr, "usage: bench search|real|stops|growth|unit|real-unit|entries|day|page ROUNDS\n");
         return 2;
     }
     int rounds = atoi(argv[2]);
@@ -765,6 +827,7 @@ int main(int argc, char **argv) {
     else if (!strcmp(argv[1], "real-unit")) time_unit(rounds, 0);
     else if (!strcmp(argv[1], "entries")) time_entries(rounds);
     else if (!strcmp(argv[1], "day")) time_day(rounds);
+    else if (!strcmp(argv[1], "page")) time_page(rounds);
     else {
         make_cases(MIB);
         if (!strcmp(argv[1], "search")) time_search(rounds);

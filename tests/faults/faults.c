@@ -1194,14 +1194,23 @@ static void draw_entries(hx_entry *entries, size_t count)
         spoil(entries, count);
 }
 
-/* The number that refuses the entries: 32, 33 and 34 are tested in this order. */
-static uint32_t day_refusal(const hx_entry *entries, size_t count)
+/* The number that refuses the entries of a day or of a page: 32 is tested before 33. */
+static uint32_t entries_refusal(const hx_entry *entries, size_t count)
 {
     if (count > HX_MOST_ENTRIES)
         return HX_COUNT_REFUSED;
     for (size_t i = 0; i < count; i++)
         if (entries[i].minute > HX_LAST_MINUTE || entries[i].length > HX_LONGEST_NAME)
             return HX_ENTRY_REFUSED;
+    return 0;
+}
+
+/* The number that refuses a day: 34 comes last. */
+static uint32_t day_refusal(const hx_entry *entries, size_t count)
+{
+    uint32_t refusal = entries_refusal(entries, count);
+    if (refusal != 0)
+        return refusal;
     for (size_t i = 0; i < count; i++)
         for (size_t j = 0; j < i; j++)
             if (entries[i].number == entries[j].number)
@@ -1289,6 +1298,82 @@ static void try_day(bool parts)
 
 static void try_day_of(void) { try_day(false); }
 static void try_day_of_parts(void) { try_day(true); }
+
+/* ---- the page of a day ---- */
+
+/* Numbers of every count of digits, that may stand twice, and names with the bytes around those
+ * that are printed; the minutes as they are. */
+static void draw_lines(hx_entry *entries, size_t count)
+{
+    static const uint8_t edges[] = {0, '\n', 31, 32, 126, 127, 128, 255};
+    for (size_t i = 0; i < count; i++) {
+        uint64_t power = 1;
+        for (uint64_t digits = below(10); digits > 0; digits--)
+            power *= 10;
+        entries[i].number = (uint32_t)(one_in(16) ? UINT32_MAX - below(2) : power + below(3) - 1);
+        for (uint64_t k = below(4); k > 0; k--) {
+            size_t at = below(HX_LONGEST_NAME);
+            entries[i].name[at] = edges[below(COUNT(edges))];
+        }
+    }
+}
+
+/* The bytes of a page: mostly enough for the lines or some less; now and then many more. Of a count
+ * that is refused, up to those of the longest. */
+static size_t draw_page_length(size_t count)
+{
+    size_t lines = HX_DAY_LINE * (count > HX_MOST_ENTRIES ? below(HX_MOST_ENTRIES + 2) : count);
+    switch (below(8)) {
+    case 0: return lines == 0 ? 0 : lines - 1;
+    case 1: return below(lines + 1);
+    case 2: return lines + 1 + below(100);
+    case 3: return one_in(16) ? UINT16_MAX + 1 + lines / 2 : lines + below(2000);
+    default: return lines;
+    }
+}
+
+/* The line of an entry: number, time, name, line feed. */
+static void print_line(const hx_entry *e, char line[HX_DAY_LINE + 1])
+{
+    char name[HX_LONGEST_NAME + 1];
+    for (size_t i = 0; i < HX_LONGEST_NAME; i++)
+        name[i] = (char)(i >= e->length ? ' ' : e->name[i] < 32 || e->name[i] > 126 ? '?' : e->name[i]);
+    name[HX_LONGEST_NAME] = 0;
+    int bytes = snprintf(line, HX_DAY_LINE + 1, "%10" PRIu32 " %02u:%02u %s\n", e->number, e->minute / 60u,
+                         e->minute % 60u, name);
+    if (bytes != (int)HX_DAY_LINE)
+        fail("the test's own line has %d bytes", bytes);
+}
+
+static void try_day_page(void)
+{
+    place e, p;
+    uint32_t result;
+    size_t held;
+    char line[HX_DAY_LINE + 1];
+    begin("hx_day_page");
+    size_t count = draw_count(&held);
+    put(&e, A, held * sizeof(hx_entry), _Alignof(hx_entry), false);
+    hx_entry *entries = (hx_entry *)e.at;
+    draw_entries(entries, held);
+    if (one_in(2))
+        draw_lines(entries, held);
+    chosen(&e);
+    arg("count", count);
+    size_t length = arg("page_length", draw_page_length(count));
+    uint8_t *page = out(&p, C, length, 1);
+    CALL(hx_day_page(entries, count, page, length));
+    uint32_t refusal = entries_refusal(entries, count);
+    expect(result, refusal != 0 ? refusal : length < HX_DAY_LINE * count ? HX_PAGE_REFUSED : 0);
+    for (size_t r = 0; result == 0 && r < count; r++) {
+        print_line(&entries[r], line);
+        if (memcmp(page + HX_DAY_LINE * r, line, HX_DAY_LINE) != 0)
+            fail("line %zu of the page is %.49s", r, (const char *)page + HX_DAY_LINE * r);
+    }
+    if (result == 0)
+        written(&p, HX_DAY_LINE * count);
+    settle();
+}
 
 /* ---- columns and the report ---- */
 
@@ -1459,6 +1544,8 @@ static void (*const tries[])(void) = {
     try_compare_bytes, try_compare_words, try_lesser_bytes, try_lesser_words,
     /* the running order of a day */
     try_day_of, try_day_of_parts,
+    /* its page */
+    try_day_page,
     /* columns and the report */
     try_column, try_report, try_refusal_line,
 };

@@ -1,6 +1,6 @@
 /*
- * How much stack the two mask calls and the day's take, and what they answer on a stack that has no
- * more.
+ * How much stack the two mask calls, the day's and its page's take, and what they answer on a stack
+ * that has no more.
  *
  * A stack of its own is painted, the calls are made on it, and the deepest byte that has changed
  * tells how much was taken. The same is done with functions that do nothing, so that what is left
@@ -9,12 +9,12 @@
  * can't be read or written. There each mask is held to the one of the other output: alike but for
  * bit 6 of the control, element j of the wide mask is all ones where bit j of the narrow one is
  * set, else zero, and flags and refusal are equal. Each day is held to what qsort makes of its
- * entries.
+ * entries, each page to what snprintf makes of them.
  *
  *   stack              measures, and fails where more is taken than is stated; then the small stack
  *   stack --measure    prints the bytes of stack that each call takes, and holds them to nothing
- *   stack --selftest   a scratch copy of a mask or a day, deeper calls, and wrong masks and days
- *                      must be found
+ *   stack --selftest   a scratch copy of a mask, a day or a page, deeper calls, and wrong masks,
+ *                      days and pages must be found
  */
 #define _GNU_SOURCE
 #include <inttypes.h>
@@ -36,11 +36,13 @@
 #define EXPLICIT_STACK 216u
 #define IMPLICIT_STACK 264u
 #define DAY_STACK 41272u
+#define PAGE_STACK 0u /* not yet measured: tests/faults/run --stack */
 #define RETURN_ADDRESS 8u
 #elif defined(__aarch64__)
 #define EXPLICIT_STACK 408u
 #define IMPLICIT_STACK 536u
 #define DAY_STACK 41392u
+#define PAGE_STACK 0u /* not yet measured: target/aarch64/stack --measure, under qemu-aarch64 */
 #define RETURN_ADDRESS 0u
 #else
 #error "no stack is stated for this processor"
@@ -70,15 +72,23 @@ typedef struct day_answer {
     uint32_t refusal;
 } day_answer;
 
+/* Room for the lines of a full day, and for some bytes that must stay. */
+typedef struct page_answer {
+    uint8_t page[HX_MOST_ENTRIES * HX_DAY_LINE + 64];
+    uint32_t refusal;
+} page_answer;
+
 typedef uint32_t explicit_call(const uint8_t *, int64_t, const uint8_t *, int64_t, uint8_t, uint8_t *, uint32_t *);
 typedef uint32_t implicit_call(const uint8_t *, const uint8_t *, uint8_t, uint8_t *, uint32_t *);
 typedef uint32_t day_call(const hx_entry *, size_t, hx_entry *, uint64_t *);
+typedef uint32_t page_call(const hx_entry *, size_t, uint8_t *, size_t);
 
-/* What is called: one of the three, the others are null. */
+/* What is called: one of the four, the others are null. */
 typedef struct subject {
     explicit_call *explicitly;
     implicit_call *implicitly;
     day_call *day;
+    page_call *page;
 } subject;
 
 static size_t page_bytes;
@@ -181,6 +191,14 @@ static void make_days(void)
     }
 }
 
+/* The bytes of a day's page: all that there are, or, of every sixth, one less than its lines
+ * have. */
+static size_t page_length(size_t k)
+{
+    size_t lines = HX_DAY_LINE * days[k].count, room = sizeof((page_answer *)0)->page;
+    return k % 6 == 4 && lines != 0 && lines <= room ? lines - 1 : room;
+}
+
 /* ---- calls that take more, for the selftest, and calls that do nothing ---- */
 
 static uint32_t no_explicit(const uint8_t *a, int64_t l1, const uint8_t *b, int64_t l2, uint8_t control, uint8_t *mask,
@@ -199,6 +217,12 @@ static uint32_t no_implicit(const uint8_t *a, const uint8_t *b, uint8_t control,
 static uint32_t no_day(const hx_entry *entries, size_t count, hx_entry *day, uint64_t *day_count)
 {
     (void)entries, (void)count, (void)day, (void)day_count;
+    return 0;
+}
+
+static uint32_t no_page(const hx_entry *entries, size_t count, uint8_t *page, size_t length)
+{
+    (void)entries, (void)count, (void)page, (void)length;
     return 0;
 }
 
@@ -306,11 +330,62 @@ static uint32_t counted_day(const hx_entry *entries, size_t count, hx_entry *day
     return hx_day_of_parts(entries, count, day, day_count);
 }
 
+/* Each line is made in a scratch copy, and then copied. */
+static uint32_t scratch_page(const hx_entry *entries, size_t count, uint8_t *page, size_t length)
+{
+    uint8_t scratch[HX_DAY_LINE];
+    uint32_t refusal = hx_day_page(entries, count, page, length);
+    for (size_t r = 0; refusal == 0 && r < count; r++) {
+        refusal = hx_day_page(&entries[r], 1, scratch, sizeof scratch);
+        memcpy(page + HX_DAY_LINE * r, scratch, sizeof scratch);
+    }
+    return refusal;
+}
+
+/* As much more as the whole small stack has. */
+static uint32_t deep_page(const hx_entry *entries, size_t count, uint8_t *page, size_t length)
+{
+    volatile uint8_t *room = __builtin_alloca(PAGE_STACK + page_bytes);
+    room[0] = 0;
+    return hx_day_page(entries, count + room[0], page, length);
+}
+
+/* Hours and minutes are exchanged. */
+static uint32_t exchanged_page(const hx_entry *entries, size_t count, uint8_t *page, size_t length)
+{
+    uint32_t refusal = hx_day_page(entries, count, page, length);
+    for (uint8_t *time = page + 11; refusal == 0 && time < page + HX_DAY_LINE * count; time += HX_DAY_LINE) {
+        uint8_t hours[2] = {time[0], time[1]};
+        memcpy(time, time + 3, 2);
+        memcpy(time + 3, hours, 2);
+    }
+    return refusal;
+}
+
+/* The byte after the last line is cleared. */
+static uint32_t ended_page(const hx_entry *entries, size_t count, uint8_t *page, size_t length)
+{
+    uint32_t refusal = hx_day_page(entries, count, page, length);
+    if (refusal == 0 && HX_DAY_LINE * count < length)
+        page[HX_DAY_LINE * count] = 0;
+    return refusal;
+}
+
+/* A refused call has written. */
+static uint32_t written_page(const hx_entry *entries, size_t count, uint8_t *page, size_t length)
+{
+    uint32_t refusal = hx_day_page(entries, count, page, length);
+    if (refusal == HX_PAGE_REFUSED)
+        page[0] = ' ';
+    return refusal;
+}
+
 /* ---- a run on a stack of its own ---- */
 
 static volatile subject the_subject;
 static answer answers[BLOCKS][256];
 static day_answer day_answers[DAYS];
+static page_answer page_answers[DAYS];
 static ucontext_t here, there;
 
 /* What stands in the answers before the calls. */
@@ -318,6 +393,7 @@ static void clear_answers(void)
 {
     memset(answers, 0, sizeof answers);
     memset(day_answers, 0xa5, sizeof day_answers);
+    memset(page_answers, 0xa5, sizeof page_answers);
 }
 
 static void call_all(void)
@@ -326,7 +402,10 @@ static void call_all(void)
         day_answer *y = &day_answers[i];
         y->refusal = the_subject.day(days[i].entries, days[i].count, y->day.entries, &y->day.count);
     }
-    for (size_t i = 0; the_subject.day == NULL && i < BLOCKS; i++)
+    for (size_t i = 0; the_subject.page != NULL && i < DAYS; i++)
+        page_answers[i].refusal =
+            the_subject.page(days[i].entries, days[i].count, page_answers[i].page, page_length(i));
+    for (size_t i = 0; the_subject.day == NULL && the_subject.page == NULL && i < BLOCKS; i++)
         for (unsigned control = 0; control < 256; control++) {
             const block *x = &blocks[i];
             answer *y = &answers[i][control];
@@ -389,7 +468,7 @@ static size_t deepest(subject called)
 static size_t taken(subject called)
 {
     subject nothing = {called.explicitly != NULL ? no_explicit : NULL, called.implicitly != NULL ? no_implicit : NULL,
-                       called.day != NULL ? no_day : NULL};
+                       called.day != NULL ? no_day : NULL, called.page != NULL ? no_page : NULL};
     return deepest(called) - deepest(nothing) + RETURN_ADDRESS;
 }
 
@@ -415,14 +494,23 @@ static void check_widened(void)
         }
 }
 
-/* The number that refuses a day's entries. */
-static uint32_t day_refusal(const entered *e)
+/* The number that refuses the entries of a day or of a page. */
+static uint32_t entries_refusal(const entered *e)
 {
     if (e->count > HX_MOST_ENTRIES)
         return HX_COUNT_REFUSED;
     for (size_t i = 0; i < e->count; i++)
         if (e->entries[i].minute > HX_LAST_MINUTE || e->entries[i].length > HX_LONGEST_NAME)
             return HX_ENTRY_REFUSED;
+    return 0;
+}
+
+/* The number that refuses a day. */
+static uint32_t day_refusal(const entered *e)
+{
+    uint32_t refusal = entries_refusal(e);
+    if (refusal != 0)
+        return refusal;
     for (size_t i = 0; i < e->count; i++)
         for (size_t j = 0; j < i; j++)
             if (e->entries[i].number == e->entries[j].number)
@@ -453,11 +541,39 @@ static void check_days(void)
     }
 }
 
+/* Each page beside the lines that snprintf makes; refused, it is as it was. */
+static void check_pages(void)
+{
+    for (size_t k = 0; k < DAYS; k++) {
+        static page_answer expected;
+        const entered *e = &days[k];
+        uint32_t refusal = entries_refusal(e);
+        if (refusal == 0 && page_length(k) < HX_DAY_LINE * e->count)
+            refusal = HX_PAGE_REFUSED;
+        memset(&expected, 0xa5, sizeof expected);
+        for (size_t r = 0; refusal == 0 && r < e->count; r++) {
+            const hx_entry *x = &e->entries[r];
+            char line[64], name[HX_LONGEST_NAME];
+            for (size_t i = 0; i < x->length; i++)
+                name[i] = x->name[i] < 32 || x->name[i] > 126 ? '?' : (char)x->name[i];
+            snprintf(line, sizeof line, "%10" PRIu32 " %02u:%02u %-32.*s\n", x->number, x->minute / 60u,
+                     x->minute % 60u, x->length, name);
+            memcpy(expected.page + HX_DAY_LINE * r, line, HX_DAY_LINE);
+        }
+        if (page_answers[k].refusal != refusal)
+            fail("refusal of page", k);
+        if (memcmp(page_answers[k].page, expected.page, sizeof expected.page) != 0)
+            fail("page", k);
+    }
+}
+
 static void run_small(size_t size, subject called)
 {
     run_on(guarded(size + page_bytes), size + page_bytes, called);
     if (called.day != NULL)
         check_days();
+    else if (called.page != NULL)
+        check_pages();
     else
         check_widened();
 }
@@ -498,29 +614,34 @@ static void selftest_of(size_t size, subject right, subject deep, const subject 
     }
 }
 
-#define EXPLICIT(call) ((subject){call, NULL, NULL})
-#define IMPLICIT(call) ((subject){NULL, call, NULL})
-#define DAY(call) ((subject){NULL, NULL, call})
+#define EXPLICIT(call) ((subject){call, NULL, NULL, NULL})
+#define IMPLICIT(call) ((subject){NULL, call, NULL, NULL})
+#define DAY(call) ((subject){NULL, NULL, call, NULL})
+#define PAGE(call) ((subject){NULL, NULL, NULL, call})
 
 static void selftest(void)
 {
     const subject masks[] = {IMPLICIT(neighbour_implicit), IMPLICIT(half_implicit), IMPLICIT(flags_implicit)};
     const subject wrong_days[] = {DAY(exchanged_day), DAY(left_day), DAY(counted_day)};
+    const subject wrong_pages[] = {PAGE(exchanged_page), PAGE(ended_page), PAGE(written_page)};
     size_t explicit_more = taken(EXPLICIT(scratch_explicit)), implicit_more = taken(IMPLICIT(scratch_implicit));
-    size_t day_more = taken(DAY(scratch_day));
+    size_t day_more = taken(DAY(scratch_day)), page_more = taken(PAGE(scratch_page));
     if (explicit_more <= EXPLICIT_STACK || implicit_more <= IMPLICIT_STACK)
         fail("a scratch copy was not found: it takes", implicit_more);
     if (day_more <= DAY_STACK)
         fail("a scratch copy of a day was not found: it takes", day_more);
+    if (page_more <= PAGE_STACK)
+        fail("a scratch copy of a line was not found: it takes", page_more);
     selftest_of(IMPLICIT_STACK, IMPLICIT(hx_pcmpistrm), IMPLICIT(deep_implicit), masks, 3);
     selftest_of(DAY_STACK, DAY(hx_day_of_parts), DAY(deep_day), wrong_days, 3);
-    printf("tests/faults: stack: a scratch copy is found (%zu and %zu bytes, and %zu of a day), deeper calls trap, and "
-           "three wrong masks and three wrong days are found\n",
-           explicit_more, implicit_more, day_more);
+    selftest_of(PAGE_STACK, PAGE(hx_day_page), PAGE(deep_page), wrong_pages, 3);
+    printf("tests/faults: stack: a scratch copy is found (%zu and %zu bytes, %zu of a day and %zu of a line of its "
+           "page), deeper calls trap, and three wrong masks, three wrong days and three wrong pages are found\n",
+           explicit_more, implicit_more, day_more, page_more);
 }
 
 /* Each call takes no more than is stated, and has enough with that. */
-static void hold_to_stated(size_t explicit_taken, size_t implicit_taken, size_t day_taken)
+static void hold_to_stated(size_t explicit_taken, size_t implicit_taken, size_t day_taken, size_t page_taken)
 {
     if (explicit_taken > EXPLICIT_STACK)
         fail("hx_pcmpestrm takes", explicit_taken);
@@ -528,6 +649,8 @@ static void hold_to_stated(size_t explicit_taken, size_t implicit_taken, size_t 
         fail("hx_pcmpistrm takes", implicit_taken);
     if (day_taken > DAY_STACK)
         fail("hx_day_of takes", day_taken);
+    if (page_taken > PAGE_STACK)
+        fail("hx_day_page takes", page_taken);
     run_small(EXPLICIT_STACK, EXPLICIT(hx_pcmpestrm));
     run_small(IMPLICIT_STACK, IMPLICIT(hx_pcmpistrm));
     printf("tests/faults: stack: the mask calls take %zu and %zu bytes, explicit and implicit; on stacks of %u and %u "
@@ -537,6 +660,10 @@ static void hold_to_stated(size_t explicit_taken, size_t implicit_taken, size_t 
     printf("tests/faults: stack: a day takes %zu bytes; on a stack of %u bytes and a page more each is what qsort "
            "makes of its entries\n",
            day_taken, DAY_STACK);
+    run_small(PAGE_STACK, PAGE(hx_day_page));
+    printf("tests/faults: stack: the page of a day takes %zu bytes; on a stack of %u bytes and a page of memory more "
+           "each has the lines that snprintf makes of its entries\n",
+           page_taken, PAGE_STACK);
 }
 
 int main(int count, char **words)
@@ -544,13 +671,16 @@ int main(int count, char **words)
     page_bytes = (size_t)sysconf(_SC_PAGESIZE);
     make_blocks();
     make_days();
-    /* On this stack first, where the dynamic linker may look for what the call needs. */
+    /* On this stack first, where the dynamic linker may look for what the calls need. */
     the_subject = DAY(hx_day_of_parts);
     call_all();
+    the_subject = PAGE(hx_day_page);
+    call_all();
     size_t explicit_taken = taken(EXPLICIT(hx_pcmpestrm)), implicit_taken = taken(IMPLICIT(hx_pcmpistrm));
-    size_t day_taken = taken(DAY(hx_day_of_parts));
+    size_t day_taken = taken(DAY(hx_day_of_parts)), page_taken = taken(PAGE(hx_day_page));
     if (count == 2 && strcmp(words[1], "--measure") == 0) {
-        printf("hx_pcmpestrm %zu\nhx_pcmpistrm %zu\nhx_day_of %zu\n", explicit_taken, implicit_taken, day_taken);
+        printf("hx_pcmpestrm %zu\nhx_pcmpistrm %zu\nhx_day_of %zu\nhx_day_page %zu\n", explicit_taken, implicit_taken,
+               day_taken, page_taken);
         return 0;
     }
     if (count == 2 && strcmp(words[1], "--selftest") == 0) {
@@ -561,6 +691,6 @@ int main(int count, char **words)
         fprintf(stderr, "usage: stack [--measure | --selftest]\n");
         return 2;
     }
-    hold_to_stated(explicit_taken, implicit_taken, day_taken);
+    hold_to_stated(explicit_taken, implicit_taken, day_taken, page_taken);
     return 0;
 }

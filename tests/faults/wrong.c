@@ -4,6 +4,8 @@
  * __real_NAME. The environment variable WRONG has the number of the mistake; without it, every call
  * does what the library does.
  */
+#include <inttypes.h>
+#include <stdio.h>
 #include <stdlib.h>
 #include <string.h>
 
@@ -467,6 +469,194 @@ WRAPPED(uint32_t, hx_day_of_parts, (const hx_entry *entries, size_t count, hx_en
         day[HX_MOST_ENTRIES - 1].number = 0;
     if (wrong(113) && r == HX_COUNT_REFUSED && count == HX_MOST_ENTRIES + 1) /* a limit of 201 */
         return 0;
+    return r;
+}
+
+/* The number's column of a line, made wrong. */
+static void spoil_number(uint32_t number, uint8_t *line)
+{
+    char digits[16];
+    if (wrong(115)) /* left-justified */
+        snprintf(digits, sizeof digits, "%-10" PRIu32, number);
+    else if (wrong(116)) /* filled with zeros */
+        snprintf(digits, sizeof digits, "%010" PRIu32, number);
+    else if (wrong(117)) /* signed */
+        snprintf(digits, sizeof digits, "%10" PRId32, (int32_t)number);
+    else if (wrong(118) && number == 0) /* zero has no digit */
+        snprintf(digits, sizeof digits, "%10s", "");
+    else
+        return;
+    memcpy(line, digits, 10);
+}
+
+/* The time of a line, made wrong. */
+static void spoil_time(uint16_t minute, uint8_t *line)
+{
+    char digits[16];
+    unsigned hours = minute / 60u, minutes = minute % 60u;
+    if (wrong(119)) /* hours and minutes exchanged */
+        snprintf(digits, sizeof digits, "%02u:%02u", minutes, hours);
+    else if (wrong(120)) /* one digit for the hour */
+        snprintf(digits, sizeof digits, "%2u:%02u", hours, minutes);
+    else if (wrong(121)) /* one digit for the minutes */
+        snprintf(digits, sizeof digits, "%02u:%-2u", hours, minutes);
+    else if (wrong(122)) /* twelve hours */
+        snprintf(digits, sizeof digits, "%02u:%02u", hours % 12, minutes);
+    else if (wrong(123) && minute == HX_LAST_MINUTE) /* the last minute is the first */
+        snprintf(digits, sizeof digits, "00:00");
+    else
+        return;
+    memcpy(line + 11, digits, 5);
+}
+
+/* The name of a line, made wrong. */
+static void spoil_name(const hx_entry *e, uint8_t *line)
+{
+    uint8_t *name = line + 17;
+    for (size_t i = 0; i < e->length; i++) {
+        uint8_t byte = e->name[i];
+        /* 126 is not printed, 127 is; 32 is not, 31 is; those above 127 are, as signed numbers */
+        if ((wrong(124) && byte == 126) || (wrong(126) && byte == 32))
+            name[i] = '?';
+        if ((wrong(125) && byte == 127) || (wrong(127) && byte == 31) || (wrong(128) && byte > 127))
+            name[i] = byte;
+        if (wrong(129) && byte > 126) /* those above 126 without their high bit */
+            name[i] = byte & 0x7f;
+        if (wrong(130) && byte == 0) /* a zero ends the name */
+            memset(name + i, ' ', HX_LONGEST_NAME - i);
+    }
+    if (wrong(131) && e->length < HX_LONGEST_NAME) /* a byte past the length is printed */
+        name[e->length] = e->name[e->length];
+    if (wrong(132)) /* zeros after the name */
+        memset(name + e->length, 0, HX_LONGEST_NAME - e->length);
+    if (wrong(133) && e->length == HX_LONGEST_NAME) /* the last byte of the longest name is lost */
+        name[HX_LONGEST_NAME - 1] = ' ';
+    if (wrong(134)) { /* right-justified */
+        memmove(name + HX_LONGEST_NAME - e->length, name, e->length);
+        memset(name, ' ', HX_LONGEST_NAME - e->length);
+    }
+}
+
+/* Makes the lines so long, each from such a place on, as far as the page goes. */
+static void lines_of(size_t bytes, size_t count, uint8_t *page, size_t page_length)
+{
+    static uint8_t lines[HX_MOST_ENTRIES * HX_DAY_LINE];
+    memcpy(lines, page, HX_DAY_LINE * count);
+    for (size_t r = 0; r < count; r++) {
+        size_t at = bytes * r, left = page_length - at;
+        size_t fits = at >= page_length ? 0 : left < HX_DAY_LINE ? left : HX_DAY_LINE;
+        memcpy(page + at, lines + HX_DAY_LINE * r, fits);
+        if (fits == HX_DAY_LINE)
+            page[at + bytes - 1] = '\n';
+    }
+}
+
+uint32_t __real_hx_day_page(const hx_entry *entries, size_t count, uint8_t *page, size_t page_length);
+
+/* The page of the entries by their minutes, or with two of them exchanged. */
+static void reorder(const hx_entry *entries, size_t count, uint8_t *page, size_t page_length)
+{
+    static hx_entry other[HX_MOST_ENTRIES];
+    memcpy(other, entries, count * sizeof *other);
+    for (size_t i = 1; i < count; i++)
+        for (size_t j = i; j > 0 && wrong(137) && other[j].minute < other[j - 1].minute; j--) {
+            hx_entry one = other[j];
+            other[j] = other[j - 1];
+            other[j - 1] = one;
+        }
+    if (wrong(138) && count > 1) {
+        other[count - 1] = entries[count - 2];
+        other[count - 2] = entries[count - 1];
+    }
+    __real_hx_day_page(other, count, page, page_length);
+}
+
+/* An accepted page, made wrong. */
+static void spoil_page(const hx_entry *entries, size_t count, uint8_t *page, size_t page_length)
+{
+    uint8_t *end = page + HX_DAY_LINE * count;
+    if (wrong(137) || wrong(138)) /* sorted first; the last two entries exchanged */
+        reorder(entries, count, page, page_length);
+    for (size_t r = 0; r < count; r++) {
+        spoil_number(entries[r].number, page + HX_DAY_LINE * r);
+        spoil_time(entries[r].minute, page + HX_DAY_LINE * r);
+        spoil_name(&entries[r], page + HX_DAY_LINE * r);
+    }
+    if (wrong(135)) /* a line of 49 */
+        lines_of(49, count, page, page_length);
+    if (wrong(136)) /* line r from byte 51 * r on */
+        lines_of(51, count, page, page_length);
+    if (wrong(139)) /* what follows the last line is cleared */
+        memset(end, ' ', page_length - HX_DAY_LINE * count);
+    if (wrong(140) && end < page + page_length) /* ends the page with a zero */
+        *end = 0;
+    if (wrong(141) && count != 0) /* no line feed at the end */
+        end[-1] = ' ';
+    if (wrong(142)) /* reads the entry past the count */
+        sink = (uint8_t)entries[count].minute;
+    if (wrong(143)) /* reads before the entries */
+        sink = (uint8_t)entries[-1].minute;
+    if (wrong(144)) /* writes behind the page */
+        page[page_length] = 0;
+    if (wrong(145)) /* writes before the page */
+        page[-1] = '\n';
+    if (wrong(146) && count != 0) /* clears what is past a name in the entries */
+        memset((uint8_t *)(uintptr_t)entries[0].name + entries[0].length, 0, HX_LONGEST_NAME - entries[0].length);
+}
+
+/* Writes to the page of a refused call. */
+static void write_refused(uint32_t r, const hx_entry *entries, size_t count, uint8_t *page, size_t page_length)
+{
+    size_t lines = page_length / HX_DAY_LINE, good = 0;
+    if (wrong(147) && r == HX_PAGE_REFUSED) /* the lines that fit */
+        __real_hx_day_page(entries, lines, page, page_length);
+    while (wrong(148) && r == HX_ENTRY_REFUSED && bad(entries, good + 1) == 0)
+        good++;
+    if (good != 0 && good <= lines) /* the lines before the bad entry */
+        __real_hx_day_page(entries, good, page, page_length);
+    if (wrong(149) && r == HX_COUNT_REFUSED && page_length != 0) /* clears the page first */
+        memset(page, ' ', page_length);
+    /* the last byte alone */
+    if (wrong(150) && r == HX_PAGE_REFUSED && count == 1 && page_length != 0)
+        page[page_length - 1] = '\n';
+}
+
+WRAPPED(uint32_t, hx_day_page, (const hx_entry *entries, size_t count, uint8_t *page, size_t page_length))
+{
+    if (wrong(151)) /* a count is cut to its low 32 bits */
+        count = (uint32_t)count;
+    if (wrong(152) && count > HX_MOST_ENTRIES) /* reads an entry before it refuses the count */
+        sink = (uint8_t)entries->minute;
+    if (wrong(153)) /* a page's length is cut to its low 16 bits */
+        page_length = (uint16_t)page_length;
+    uint32_t r = __real_hx_day_page(entries, count, page, page_length);
+    if (r == 0)
+        spoil_page(entries, count, page, page_length);
+    write_refused(r, entries, count, page, page_length);
+    if (wrong(154) && r == 0 && page_length == HX_DAY_LINE * count) /* needs a byte more */
+        return HX_PAGE_REFUSED;
+    /* or one less */
+    if (wrong(155) && r == HX_PAGE_REFUSED && page_length == HX_DAY_LINE * count - 1)
+        return 0;
+    /* 35 before 33 */
+    if (wrong(156) && r == HX_ENTRY_REFUSED && page_length < HX_DAY_LINE * count)
+        return HX_PAGE_REFUSED;
+    /* 35 before 32 */
+    if (wrong(157) && r == HX_COUNT_REFUSED && page_length / HX_DAY_LINE < count)
+        return HX_PAGE_REFUSED;
+    /* 34, which is not tested */
+    if (wrong(158) && (r == 0 || r == HX_PAGE_REFUSED) && doubled(entries, count) != 0)
+        return HX_NUMBER_REFUSED;
+    /* the last entry is not tested */
+    if (wrong(159) && r == HX_ENTRY_REFUSED && bad(entries, count - 1) == 0)
+        return 0;
+    /* the first is not */
+    if (wrong(160) && r == HX_ENTRY_REFUSED && bad(entries + 1, count - 1) == 0)
+        return 0;
+    if (wrong(161) && r == HX_COUNT_REFUSED && count == HX_MOST_ENTRIES + 1) /* a limit of 201 */
+        return 0;
+    if (wrong(162) && r == 0 && count == HX_MOST_ENTRIES) /* or of 199 */
+        return HX_COUNT_REFUSED;
     return r;
 }
 
