@@ -36,13 +36,13 @@
 #define EXPLICIT_STACK 216u
 #define IMPLICIT_STACK 264u
 #define DAY_STACK 41272u
-#define PAGE_STACK 0u /* not yet measured: tests/faults/run --stack */
+#define PAGE_STACK 16088u
 #define RETURN_ADDRESS 8u
 #elif defined(__aarch64__)
 #define EXPLICIT_STACK 408u
 #define IMPLICIT_STACK 536u
 #define DAY_STACK 41392u
-#define PAGE_STACK 0u /* not yet measured: target/aarch64/stack --measure, under qemu-aarch64 */
+#define PAGE_STACK 16112u
 #define RETURN_ADDRESS 0u
 #else
 #error "no stack is stated for this processor"

@@ -15,11 +15,11 @@ returns c =
     let a = c .before .before .before .args in
     let e = c .before .form-refusal .ensures in
     refused (a .entries) (a .count) (a .page .now) (c .before .form-refusal .result)
-    (e ∙ sym (refused-by-form (a .entries) (a .count) _ (λ z. c .if1 .taken (e ∙ z)))) (c .if1 .taken)
+    (e ∙ sym (refused-by-form (a .entries) (a .count) _ (λ z. omega (arith, e, z)))) (λ z. omega (arith, z))
 
 -- past the first test, the entries are not refused
 no-refusal : (c : tie.Else1) → formRefusal (c .before .before .before .args .entries) (c .before .before .before .args .count) ≡ 0
-no-refusal c = sym (c .before .form-refusal .ensures) ∙ c .if1 .left
+no-refusal c = omega (arith, c .before .form-refusal .ensures)
 
 few : (c : tie.Else1) → c .before .before .before .args .count ≤ 200
 few c = form-count (c .before .before .before .args .entries) (c .before .before .before .args .count) (no-refusal c)

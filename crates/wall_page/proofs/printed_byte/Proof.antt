@@ -8,13 +8,13 @@ use Rattle.wall_page.proofs.printed_byte.Tie as tie
 
 returns : tie.Need-returns
 unfolding printedByte
-returns c = rw (lt-ltb (c .before .args .byte) 32 (c .if1 .taken))
+returns c = rw (lt-ltb (c .before .args .byte) 32 (omega arith))
 
 returns-2 : tie.Need-returns-2
 unfolding printedByte
 returns-2 c =
     let x = c .before .before .args .byte in
-    rw (le-ltb x 32 (omega arith), lt-ltb 126 x (c .if2 .taken))
+    rw (le-ltb x 32 (omega arith), lt-ltb 126 x (omega arith))
 
 returns-3 : tie.Need-returns-3
 unfolding printedByte
