@@ -1,5 +1,5 @@
--- Bytes put on a page: columns and a byte after them at its front, a line at its own byte, and a part of
--- the page that another call wrote. Assumes nothing.
+-- Bytes put on a page: columns and a byte after them at its front, a line at its own byte, and a
+-- part of the page that another call wrote. Assumes nothing.
 use Prim.Native.Nat.{ℕ, suc, _+_, _-_, _≤_, _<_}
 use mathlib.Core.Path.{_≡_, sym, ap, _∙_}
 use mathlib.Core.List.{List, [], _∷_, _++_, append-assoc, append-nil}

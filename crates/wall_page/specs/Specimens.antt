@@ -36,25 +36,25 @@ smith = 83 ∷ 77 ∷ 73 ∷ 84 ∷ 72 ∷ []
 abbrev line : List ℕ → List ℕ → List ℕ → List ℕ
 line number time name = number ++ (32 ∷ []) ++ time ++ (32 ∷ []) ++ name ++ (10 ∷ [])
 
--- W1, the paper's: entry 7, `SMITH`, minute 545
+-- P1, the paper's: entry 7, `SMITH`, minute 545
 abbrev seven : Entry
 seven = entered 7 545 smith
 
 abbrev sevenLine : List ℕ
 sevenLine = line (spaces 9 ++ (55 ∷ [])) early (smith ++ spaces 27)
 
-unfoldable pub W1 : Bool
-W1 = same (lineOf seven) sevenLine && eqb (length (lineOf seven)) 50
+unfoldable pub P1 : Bool
+P1 = same (lineOf seven) sevenLine && eqb (length (lineOf seven)) 50
 
--- W2: minute 0, number 0, no name; W3: minute 1,439, number 4294967295, a name of 32 bytes
+-- P2: minute 0, number 0, no name; P3: minute 1,439, number 4294967295, a name of 32 bytes
 abbrev none : Entry
 none = entered 0 0 []
 
 abbrev noneLine : List ℕ
 noneLine = line (spaces 9 ++ (48 ∷ [])) midnight (spaces 32)
 
-unfoldable pub W2 : Bool
-W2 = same (lineOf none) noneLine
+unfoldable pub P2 : Bool
+P2 = same (lineOf none) noneLine
 
 abbrev full : Entry
 full = entered 4294967295 1439 (replicate 32 65)
@@ -63,12 +63,12 @@ abbrev fullLine : List ℕ
 fullLine =
     line (52 ∷ 50 ∷ 57 ∷ 52 ∷ 57 ∷ 54 ∷ 55 ∷ 50 ∷ 57 ∷ 53 ∷ []) late (replicate 32 65)
 
-unfoldable pub W3 : Bool
-W3 = same (lineOf full) fullLine
+unfoldable pub P3 : Bool
+P3 = same (lineOf full) fullLine
 
--- W4: the bytes 31, 32, 126, 127, 255, a line feed and a zero in a name
-unfoldable pub W4 : Bool
-W4 =
+-- P4: the bytes 31, 32, 126, 127, 255, a line feed and a zero in a name
+unfoldable pub P4 : Bool
+P4 =
     same (lineOf (entered 7 545 (31 ∷ 32 ∷ 126 ∷ 127 ∷ 255 ∷ 10 ∷ 0 ∷ [])))
     (line (spaces 9 ++ (55 ∷ [])) early ((63 ∷ 32 ∷ 126 ∷ 63 ∷ 63 ∷ 63 ∷ 63 ∷ []) ++ spaces 25))
 
@@ -86,41 +86,41 @@ unfoldable pub refuses : List Entry → ℕ → ℕ → ℕ → Bool
 refuses es n room number =
     eqb (pageRefusal es n room) number && same (pageAfter es n (blank room)) (blank room)
 
--- W5: a page that fits, one byte long and one byte short
-unfoldable pub W5 : Bool
-W5 =
+-- P5: a page that fits, one byte long and one byte short
+unfoldable pub P5 : Bool
+P5 =
     writes (seven ∷ none ∷ []) 2 100 (sevenLine ++ noneLine)
     && writes (seven ∷ none ∷ []) 2 101 (sevenLine ++ noneLine ++ (35 ∷ []))
     && refuses (seven ∷ none ∷ []) 2 99 35
 
--- W6: as handed over: the later first, and one number twice; no entry, on a page and on none
-unfoldable pub W6 : Bool
-W6 =
+-- P6: as handed over: the later first, and one number twice; no entry, on a page and on none
+unfoldable pub P6 : Bool
+P6 =
     writes (full ∷ seven ∷ seven ∷ []) 3 150 (fullLine ++ sevenLine ++ sevenLine)
     && writes [] 0 3 (blank 3)
     && writes [] 0 0 []
 
--- W7: a bad entry past the count, and within it; 33 before 35
+-- P7: a bad entry past the count, and within it; 33 before 35
 abbrev minuteBad : Entry
 minuteBad = entered 7 1440 smith
 
 abbrev nameBad : Entry
 nameBad = entered 7 545 (replicate 33 65)
 
-unfoldable pub W7 : Bool
-W7 =
+unfoldable pub P7 : Bool
+P7 =
     writes (seven ∷ minuteBad ∷ []) 1 60 (sevenLine ++ blank 10)
     && refuses (seven ∷ minuteBad ∷ []) 2 100 33
     && refuses (nameBad ∷ seven ∷ []) 2 100 33
     && refuses (nameBad ∷ seven ∷ []) 2 10 33
 
--- W8: 200 entries, and 201; 32 before 33 and 35
-unfoldable pub W8 : Bool
-W8 =
+-- P8: 200 entries, and 201; 32 before 33 and 35
+unfoldable pub P8 : Bool
+P8 =
     eqb (pageRefusal (replicate 200 seven) 200 10000) 0
     && eqb (pageRefusal (replicate 200 seven) 200 9999) 35
     && refuses (replicate 200 minuteBad) 201 10 32
 
-pub pages-hold : T (all (W1 ∷ W2 ∷ W3 ∷ W4 ∷ W5 ∷ W6 ∷ W7 ∷ W8 ∷ []))
-unfolding digits digitsWithin column nameOf badEntry formRefusal timeOf printedByte nameColumn lineOf linesOf pageOf pageRefusal pageAfter entered writes refuses W1 W2 W3 W4 W5 W6 W7 W8
+pub pages-hold : T (all (P1 ∷ P2 ∷ P3 ∷ P4 ∷ P5 ∷ P6 ∷ P7 ∷ P8 ∷ []))
+unfolding digits digitsWithin column nameOf badEntry formRefusal timeOf printedByte nameColumn lineOf linesOf pageOf pageRefusal pageAfter entered writes refuses P1 P2 P3 P4 P5 P6 P7 P8
 pages-hold = tt
