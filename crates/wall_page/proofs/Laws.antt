@@ -1,15 +1,11 @@
 -- What a line and a page must be. Assumes nothing.
 use Prim.Native.Nat.{ℕ, zero, suc, _+_, _-_, _*_, _/_, _%_, _≤_, _<_}
 use mathlib.Core.Path.{_≡_, refl, sym, ap, _∙_}
-use mathlib.Core.Bool.{Bool, true, false, cond, _||_}
 use mathlib.Core.List.{List, [], _∷_, _++_, append-assoc, map}
-use mathlib.Core.Logic.{by-cases}
-use native.Mathlib.Decide.{decLt}
 use native.Mathlib.Omega.{arith}
-use native.Mathlib.Nat.{not-suc-le-zero}
 use lib.Dec.{ltb}
-use lib.ListN.{length, getD, take, drop, replicate, length-append, length-replicate, getD-replicate, List·getD-append}
-use lib.Seq.{take-at, drop-at, getD-at, getD-append-add, drop-append-add, length-take-le, getD-take}
+use lib.ListN.{length, getD, take, drop, replicate, length-append, List·getD-append}
+use lib.Seq.{take-at, drop-at, getD-at, drop-append-add, length-take-le, getD-take}
 use borrow.Author.Tests.{ltb-false}
 use Rattle.bits.proofs.Below.{by-test}
 use Rattle.decimal.specs.Decimal.{column, digits, value}
@@ -19,37 +15,28 @@ use Rattle.decimal.proofs.Pages.{length-kept}
 use Rattle.entries.specs.declared.Entry.{Entry}
 use Rattle.entries.specs.Entries.{nameOf, noEntry, formRefusal}
 use Rattle.entries.proofs.Tests.{good-minute, form-count, form-good}
-use Rattle.wall_page.specs.Pages.{timeOf, printedByte, nameColumn, printedName, lineOf, linesOf, pageOf, pageAfter, pageRefusal}
+use Rattle.wall_page.specs.Pages.{timeOf, printedByte, nameColumn, printedName, lineOf, linesOf, pageOf, pageRefusal}
 use Rattle.wall_page.specs.Aligned.{Accepted, IsLine, Handed, IsPage}
 use Rattle.wall_page.proofs.Columns.{length-time}
-use Rattle.wall_page.proofs.Lines.{upToName, length-printed}
+use Rattle.wall_page.proofs.Lines.{upToTime, upToSpace, upToName, upToFeed, length-printed}
 use Rattle.wall_page.proofs.Answers.{accepted-form, accepted-room, page-written}
 
 -- ---- fifty bytes
-
-abbrev spacedNumber : Entry → List ℕ
-spacedNumber e = column (e .number) 10 ++ (32 ∷ [])
-
-abbrev untilTime : Entry → List ℕ
-untilTime e = spacedNumber e ++ timeOf (e .minute)
-
-abbrev untilFeed : Entry → List ℕ
-untilFeed e = upToName e ++ printedName e
 
 module _ (e : Entry) (h : Accepted e) where
   length-number : length (column (e .number) 10) ≡ 10
   length-number = length-column (e .number) 10 (omega (arith, h .number)) (omega arith)
 
-  length-spaced : length (spacedNumber e) ≡ 11
+  length-spaced : length (upToTime e) ≡ 11
   length-spaced = rw (length-append, length-number)
 
-  length-timed : length (untilTime e) ≡ 16
+  length-timed : length (upToSpace e) ≡ 16
   length-timed = rw (length-append, length-spaced, length-time (e .minute))
 
   length-up : length (upToName e) ≡ 17
   length-up = rw (length-append, length-timed)
 
-  length-front : length (untilFeed e) ≡ 49
+  length-front : length (upToFeed e) ≡ 49
   length-front = rw (length-append, length-up, length-printed e (h .good))
 
   pub fifty : length (lineOf e) ≡ 50
@@ -60,7 +47,7 @@ module _ (e : Entry) (h : Accepted e) where
 
   last : getD (lineOf e) 49 0 ≡ 10
   unfolding lineOf
-  last = getD-at (untilFeed e) 10 [] 0 49 length-front
+  last = getD-at (upToFeed e) 10 [] 0 49 length-front
 
 -- ---- the others are printed
 
@@ -113,18 +100,18 @@ printed-name : (l : List ℕ) → Printed (nameColumn l)
 unfolding nameColumn
 printed-name l = printed-both (map printedByte l) (replicate (32 - length l) 32) (printed-bytes l) (printed-spaces (32 - length l))
 
-printed-front : (e : Entry) → Accepted e → Printed (untilFeed e)
+printed-front : (e : Entry) → Accepted e → Printed (upToFeed e)
 printed-front e h =
     let space = printed-one 32 (omega arith) (omega arith) in
     let number = printed-both (column (e .number) 10) (32 ∷ []) (printed-number (e .number) 10) space in
-    let time = printed-both (spacedNumber e) (timeOf (e .minute)) number (printed-time (e .minute) (good-minute e (h .good))) in
-    printed-both (upToName e) (printedName e) (printed-both (untilTime e) (32 ∷ []) time space) (printed-name (nameOf e))
+    let time = printed-both (upToTime e) (timeOf (e .minute)) number (printed-time (e .minute) (good-minute e (h .good))) in
+    printed-both (upToName e) (printedName e) (printed-both (upToSpace e) (32 ∷ []) time space) (printed-name (nameOf e))
 
 others : (e : Entry) → Accepted e → (i : ℕ) → i < 49 → (32 ≤ getD (lineOf e) i 0) × (getD (lineOf e) i 0 ≤ 126)
 unfolding lineOf
 others e h i u =
-    let within : i < length (untilFeed e) = rw (length-front e h) u in
-    rw (List·getD-append (untilFeed e) (10 ∷ []) 0 i within) (printed-front e h i within)
+    let within : i < length (upToFeed e) = rw (length-front e h) u in
+    rw (List·getD-append (upToFeed e) (10 ∷ []) 0 i within) (printed-front e h i within)
 
 -- ---- unlike entries have unlike lines
 
@@ -145,10 +132,10 @@ time-minute m k e =
 apart : (a b : Entry) → Accepted a → Accepted b → lineOf a ≡ lineOf b → (a .number ≡ b .number) × (a .minute ≡ b .minute) × (printedName a ≡ printedName b)
 unfolding lineOf
 apart a b h k e =
-    let at-feed = parted (untilFeed a) (10 ∷ []) (untilFeed b) (10 ∷ []) 49 (length-front a h) (length-front b k) e in
+    let at-feed = parted (upToFeed a) (10 ∷ []) (upToFeed b) (10 ∷ []) 49 (length-front a h) (length-front b k) e in
     let at-name = parted (upToName a) (printedName a) (upToName b) (printedName b) 17 (length-up a h) (length-up b k) (at-feed .0) in
-    let at-space = parted (untilTime a) (32 ∷ []) (untilTime b) (32 ∷ []) 16 (length-timed a h) (length-timed b k) (at-name .0) in
-    let at-time = parted (spacedNumber a) (timeOf (a .minute)) (spacedNumber b) (timeOf (b .minute)) 11 (length-spaced a h) (length-spaced b k) (at-space .0) in
+    let at-space = parted (upToSpace a) (32 ∷ []) (upToSpace b) (32 ∷ []) 16 (length-timed a h) (length-timed b k) (at-name .0) in
+    let at-time = parted (upToTime a) (timeOf (a .minute)) (upToTime b) (timeOf (b .minute)) 11 (length-spaced a h) (length-spaced b k) (at-space .0) in
     let at-first = parted (column (a .number) 10) (32 ∷ []) (column (b .number) 10) (32 ∷ []) 10 (length-number a h) (length-number b k) (at-time .0) in
     (sym (value-column (a .number) 10) ∙ ap value (at-first .0) ∙ value-column (b .number) 10, time-minute (a .minute) (b .minute) (at-time .1), at-name .1)
 

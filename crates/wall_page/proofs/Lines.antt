@@ -1,7 +1,7 @@
 -- A line made column by column at the front of a page, and lines one after the other. Assumes
 -- nothing.
-use Prim.Native.Nat.{ℕ, suc, _+_, _-_, _*_, _^_, _≤_, _<_}
-use mathlib.Core.Path.{_≡_, refl, sym, ap, _∙_}
+use Prim.Native.Nat.{ℕ, suc, _+_, _-_, _*_, _≤_, _<_}
+use mathlib.Core.Path.{_≡_, refl, ap, _∙_}
 use mathlib.Core.Bool.{false}
 use mathlib.Core.List.{List, [], _∷_, _++_, append-assoc, append-nil}
 use native.Mathlib.Omega.{arith}
@@ -14,9 +14,9 @@ use Rattle.decimal.proofs.Pages.{byte-put, length-kept, part-put, line-put, tai
 use Rattle.entries.specs.declared.Entry.{Entry}
 use Rattle.entries.specs.Entries.{badEntry, nameOf, noEntry}
 use Rattle.entries.proofs.Tests.{good-length}
-use Rattle.wall_page.specs.Pages.{timeOf, nameColumn, lineOf, linesOf, pageOf}
+use Rattle.wall_page.specs.Pages.{timeOf, printedName, lineOf, linesOf}
 use Rattle.wall_page.specs.Writers.{HasLine}
-use Rattle.wall_page.proofs.Columns.{length-time, length-name}
+use Rattle.wall_page.proofs.Columns.{length-name}
 
 -- a page that had b begins with n bytes x, and goes on as it was
 pub record Begins (x : List ℕ) (n : ℕ) (b page : List ℕ) : Type 0 where
@@ -69,15 +69,24 @@ length-part x b page n h = rw (tail page n, length-drop, as-long x b page n h)
 
 -- ---- a line
 
--- the columns of an entry, up to its name
-abbrev pub upToName : Entry → List ℕ
-upToName e = ((column (e .number) 10 ++ (32 ∷ [])) ++ timeOf (e .minute)) ++ (32 ∷ [])
+-- the line of an entry up to its time, to the space after that, to its name and to its line feed
+abbrev pub upToTime : Entry → List ℕ
+upToTime e = column (e .number) 10 ++ (32 ∷ [])
 
-pub line-made : (e : Entry) (b page : List ℕ) → Begins ((upToName e ++ nameColumn (nameOf e)) ++ (10 ∷ [])) 50 b page → HasLine e b page
+abbrev pub upToSpace : Entry → List ℕ
+upToSpace e = upToTime e ++ timeOf (e .minute)
+
+abbrev pub upToName : Entry → List ℕ
+upToName e = upToSpace e ++ (32 ∷ [])
+
+abbrev pub upToFeed : Entry → List ℕ
+upToFeed e = upToName e ++ printedName e
+
+pub line-made : (e : Entry) (b page : List ℕ) → Begins (upToFeed e ++ (10 ∷ [])) 50 b page → HasLine e b page
 unfolding lineOf
 line-made e b page h = record { page = h .has; long = h .long }
 
-pub length-printed : (e : Entry) → badEntry e ≡ false → length (nameColumn (nameOf e)) ≡ 32
+pub length-printed : (e : Entry) → badEntry e ≡ false → length (printedName e) ≡ 32
 unfolding nameOf
 length-printed e g = length-name (take (e .length) (e .name)) (rw length-take (omega (arith, good-length e g)))
 

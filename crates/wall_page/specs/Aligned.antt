@@ -7,7 +7,7 @@ use mathlib.Core.List.{List}
 use lib.ListN.{length, getD, take, drop}
 use Rattle.entries.specs.declared.Entry.{Entry}
 use Rattle.entries.specs.Entries.{badEntry, mostEntries, noEntry}
-use Rattle.wall_page.specs.Pages.{feed, lineBytes, lineOf, printedName, pageAfter, pageRefusal}
+use Rattle.wall_page.specs.Pages.{feed, lineBytes, lineOf, printedName, pageAfter}
 
 -- an entry that is not refused; its number has 32 bits
 pub record Accepted (e : Entry) : Type 0 where

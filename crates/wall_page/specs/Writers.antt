@@ -5,8 +5,18 @@ use mathlib.Core.Bool.{false}
 use mathlib.Core.List.{List, _++_}
 use lib.ListN.{length, drop}
 use Rattle.entries.specs.declared.Entry.{Entry}
-use Rattle.entries.specs.Entries.{badEntry, formRefusal}
+use Rattle.entries.specs.Entries.{lastMinute, longestName, badEntry, formRefusal}
 use Rattle.wall_page.specs.Pages.{lineBytes, lineOf, pageOf}
+
+-- a minute of the day, and a page with room for its time
+pub record TimeFits (minute : ℕ) (page : List ℕ) : Type 0 where
+  pub in-day : minute ≤ lastMinute
+  pub room : 5 ≤ length page
+
+-- a name of so many bytes, and a page with room for its columns
+pub record NameFits (size : ℕ) (page : List ℕ) : Type 0 where
+  pub short : size ≤ longestName
+  pub room : longestName ≤ length page
 
 -- an entry that is not refused, and a page with room for its line
 pub record Printable (e : Entry) (page : List ℕ) : Type 0 where

@@ -4,15 +4,14 @@
 // Public call: `day_page` writes the lines of some entries at the front of a lent page, or tells
 // the number that refuses them.
 use entries::Entry;
-ghost use Prim.Native.Nat.{_≤_};
 ghost use mathlib.Core.Path.{_≡_};
 ghost use mathlib.Core.Bool.{cond};
 ghost use mathlib.Core.List.{_++_};
 ghost use lib.Dec.{ltb};
-ghost use lib.ListN.{length, take, drop};
-ghost use Rattle.entries.specs.Entries.{lastMinute, longestName};
+ghost use lib.ListN.{take, drop};
+ghost use Rattle.entries.specs.Entries.{longestName};
 ghost use Rattle.wall_page.specs.Pages.{nameColumn, printedByte, timeOf, DayPage};
-ghost use Rattle.wall_page.specs.Writers.{HasLine, HasLines, Printable, Room};
+ghost use Rattle.wall_page.specs.Writers.{HasLine, HasLines, NameFits, Printable, Room, TimeFits};
 
 // Refusal number 35 of document 02: the page is shorter than the lines of the entries.
 pub const PAGE_REFUSED: u32 = 35;
@@ -59,7 +58,7 @@ fn name_byte(byte: u8, at: usize, length: usize) -> u8
 
 // Writes a minute of the day as hours and minutes, of two digits each, at the front of the page.
 fn put_time(minute: u16, page: &mut [u8])
-    requires { ⌜ (minute ≤ lastMinute) × (5 ≤ length (now page)) ⌝ }
+    requires { ⌜ TimeFits minute (now page) ⌝ }
     ensures { λ _. ⌜ now (page .exit) ≡ timeOf minute ++ drop 5 (now (page .entry)) ⌝ }
 {
     let hours = minute / 60;
@@ -73,7 +72,7 @@ fn put_time(minute: u16, page: &mut [u8])
 
 // Writes a name in its columns, with spaces after it, at the front of the page.
 fn put_name(name: [u8; entries::LONGEST_NAME], size: usize, page: &mut [u8])
-    requires { ⌜ (size ≤ longestName) × (longestName ≤ length (now page)) ⌝ }
+    requires { ⌜ NameFits size (now page) ⌝ }
     ensures { λ _. ⌜ now (page .exit)
         ≡ nameColumn (take size name) ++ drop longestName (now (page .entry)) ⌝ }
 {

@@ -1,119 +1,129 @@
 -- `wall_page::put_line` meets its contract: column after column, each at its own byte. Assumes
 -- nothing.
-use Prim.Native.Nat.{ℕ, _≤_, _<_}
-use mathlib.Core.Path.{_≡_, refl, sym, ap, _∙_}
+use Prim.Native.Nat.{ℕ}
 use mathlib.Core.List.{List, [], _∷_, _++_}
 use native.Mathlib.Omega.{arith}
 use borrow.Author.Needs.{needs}
-use lib.ListN.{length, set}
+use lib.ListN.{set}
 use Rattle.decimal.specs.Decimal.{column}
 use Rattle.entries.specs.Entries.{nameOf}
 use Rattle.entries.proofs.Tests.{good-length, good-minute}
-use Rattle.wall_page.specs.Pages.{timeOf, nameColumn}
-use Rattle.entries.specs.declared.Entry.{Entry}
+use Rattle.wall_page.specs.Pages.{timeOf, printedName}
 use Rattle.wall_page.proofs.Columns.{length-time}
-use Rattle.wall_page.proofs.Lines.{Begins, as-long, number-put, next-byte, next-part, withPart, length-part, upToName, length-printed, line-made}
+use Rattle.wall_page.proofs.Lines.{Begins, as-long, number-put, next-byte, next-part, withPart, length-part, upToTime, upToSpace, upToName, upToFeed, length-printed, line-made}
 use Rattle.wall_page.proofs.put_line.Statement.{statement}
 use Rattle.wall_page.proofs.put_line.Tie as tie
 
 -- ---- the number, and a space
 
-abbrev start : tie.After-slice-known2 → tie.Start
-start c = c .before .before .before .before .before .before
+abbrev Begun : tie.Start → List ℕ → ℕ → List ℕ → Type 0
+Begun s x n page = Begins x n (s .args .page .now) page
+
+abbrev first : tie.After-slice-known2 → tie.Start
+first c = c .before .before .before .before .before .before
 
 abbrev numbered : tie.After-slice-known2 → List ℕ
 numbered c = c .before .before .right-justified .last .1 .1 .0
 
-number-begun : (c : tie.After-slice-known2) → Begins (column (start c .args .e .number) 10) 10 (start c .args .page .now) (numbered c)
+number-begun : (c : tie.After-slice-known2) → Begun (first c) (column (first c .args .e .number) 10) 10 (numbered c)
 number-begun c =
-    number-put (start c .args .e .number) (start c .args .page .now) (numbered c) (omega arith) (omega (arith, start c .pre .room)) (c .before .before .right-justified .ensures .buffer)
+    let a = first c .args in
+    number-put (a .e .number) (a .page .now) (numbered c) (omega arith) (omega (arith, first c .pre .room)) (c .before .before .right-justified .ensures .buffer)
 
-number-spaced : (c : tie.After-slice-known2) → Begins (column (start c .args .e .number) 10 ++ (32 ∷ [])) 11 (start c .args .page .now) (set (numbered c) 10 32)
+number-spaced : (c : tie.After-slice-known2) → Begun (first c) (upToTime (first c .args .e)) 11 (set (numbered c) 10 32)
 number-spaced c =
-    next-byte (column (start c .args .e .number) 10) (start c .args .page .now) (numbered c) 10 32 (number-begun c) (omega (arith, start c .pre .room))
+    let a = first c .args in
+    next-byte (column (a .e .number) 10) (a .page .now) (numbered c) 10 32 (number-begun c) (omega (arith, first c .pre .room))
 
 -- ---- the time, and a space
 
-abbrev numberBefore : tie.After-slice-known3 → tie.After-slice-known2
-numberBefore c = c .before .before .before .before
+abbrev atNumber : tie.After-slice-known3 → tie.After-slice-known2
+atNumber c = c .before .before .before .before
+
+abbrev second : tie.After-slice-known3 → tie.Start
+second c = first (atNumber c)
 
 abbrev timed : tie.After-slice-known3 → List ℕ
-timed c = withPart 11 (c .before .before .put-time .last .1 .0) (set (numbered (numberBefore c)) 10 32)
+timed c = withPart 11 (c .before .before .put-time .last .1 .0) (set (numbered (atNumber c)) 10 32)
 
-abbrev untilTime : Entry → List ℕ
-untilTime e = (column (e .number) 10 ++ (32 ∷ [])) ++ timeOf (e .minute)
-
-time-begun : (c : tie.After-slice-known3) → Begins (untilTime (start (numberBefore c) .args .e)) 16 (start (numberBefore c) .args .page .now) (timed c)
+time-begun : (c : tie.After-slice-known3) → Begun (second c) (upToSpace (second c .args .e)) 16 (timed c)
 time-begun c =
-    let s = start (numberBefore c) in
-    let a = s .args in
-    next-part (column (a .e .number) 10 ++ (32 ∷ [])) (timeOf (a .e .minute)) (a .page .now) (set (numbered (numberBefore c)) 10 32) (c .before .before .put-time .last .1 .0) 11 5
-    (number-spaced (numberBefore c)) (length-time (a .e .minute)) (omega (arith, s .pre .room)) (c .before .before .put-time .ensures)
+    let a = second c .args in
+    let put = c .before .before .put-time in
+    next-part (upToTime (a .e)) (timeOf (a .e .minute)) (a .page .now) (set (numbered (atNumber c)) 10 32) (put .last .1 .0) 11 5 (number-spaced (atNumber c)) (length-time (a .e .minute))
+    (omega (arith, second c .pre .room)) (put .ensures)
 
-time-spaced : (c : tie.After-slice-known3) → Begins (upToName (start (numberBefore c) .args .e)) 17 (start (numberBefore c) .args .page .now) (set (timed c) 16 32)
+time-spaced : (c : tie.After-slice-known3) → Begun (second c) (upToName (second c .args .e)) 17 (set (timed c) 16 32)
 time-spaced c =
-    let s = start (numberBefore c) in
-    next-byte (untilTime (s .args .e)) (s .args .page .now) (timed c) 16 32 (time-begun c) (omega (arith, s .pre .room))
+    let a = second c .args in
+    next-byte (upToSpace (a .e)) (a .page .now) (timed c) 16 32 (time-begun c) (omega (arith, second c .pre .room))
 
 -- ---- the name, and the line feed
 
-abbrev timeBefore : tie.After-slice-known4 → tie.After-slice-known3
-timeBefore c = c .before .before .before .before .before .before
+abbrev atTime : tie.After-slice-known4 → tie.After-slice-known3
+atTime c = c .before .before .before .before .before .before
+
+abbrev third : tie.After-slice-known4 → tie.Start
+third c = second (atTime c)
 
 abbrev named : tie.After-slice-known4 → List ℕ
-named c = withPart 17 (c .before .before .put-name .last .1 .1 .0) (set (timed (timeBefore c)) 16 32)
+named c = withPart 17 (c .before .before .put-name .last .1 .1 .0) (set (timed (atTime c)) 16 32)
 
-name-begun : (c : tie.After-slice-known4)
-    → Begins (upToName (start (numberBefore (timeBefore c)) .args .e) ++ nameColumn (nameOf (start (numberBefore (timeBefore c)) .args .e))) 49 (start (numberBefore (timeBefore c)) .args .page .now) (named c)
+name-begun : (c : tie.After-slice-known4) → Begun (third c) (upToFeed (third c .args .e)) 49 (named c)
 unfolding nameOf
 name-begun c =
-    let s = start (numberBefore (timeBefore c)) in
-    let a = s .args in
-    next-part (upToName (a .e)) (nameColumn (nameOf (a .e))) (a .page .now) (set (timed (timeBefore c)) 16 32) (c .before .before .put-name .last .1 .1 .0) 17 32
-    (time-spaced (timeBefore c)) (length-printed (a .e) (s .pre .good)) (omega (arith, s .pre .room)) (c .before .before .put-name .ensures)
+    let a = third c .args in
+    let put = c .before .before .put-name in
+    next-part (upToName (a .e)) (printedName (a .e)) (a .page .now) (set (timed (atTime c)) 16 32) (put .last .1 .1 .0) 17 32 (time-spaced (atTime c)) (length-printed (a .e) (third c .pre .good))
+    (omega (arith, third c .pre .room)) (put .ensures)
 
-all-begun : (c : tie.After-slice-known4)
-    → Begins ((upToName (start (numberBefore (timeBefore c)) .args .e) ++ nameColumn (nameOf (start (numberBefore (timeBefore c)) .args .e))) ++ (10 ∷ [])) 50 (start (numberBefore (timeBefore c)) .args .page .now) (set (named c) 49 10)
-all-begun c =
-    let s = start (numberBefore (timeBefore c)) in
-    let a = s .args in
-    next-byte (upToName (a .e) ++ nameColumn (nameOf (a .e))) (a .page .now) (named c) 49 10 (name-begun c) (omega (arith, s .pre .room))
+line-begun : (c : tie.After-slice-known4) → Begun (third c) (upToFeed (third c .args .e) ++ (10 ∷ [])) 50 (set (named c) 49 10)
+line-begun c =
+    let a = third c .args in
+    next-byte (upToFeed (a .e)) (a .page .now) (named c) 49 10 (name-begun c) (omega (arith, third c .pre .room))
 
 -- ---- what is asked on the way
 
 sub-put-time : tie.Need-sub-put-time
-sub-put-time c = omega (arith, as-long _ _ _ _ (number-spaced c), start c .pre .room)
+sub-put-time c = omega (arith, as-long _ _ _ _ (number-spaced c), first c .pre .room)
 
 part-put-time-start : tie.Need-part-put-time-start
-part-put-time-start c = omega (arith, as-long _ _ _ _ (number-spaced c), start c .pre .room)
+part-put-time-start c = omega (arith, as-long _ _ _ _ (number-spaced c), first c .pre .room)
 
 put-time-requires : tie.Need-put-time-requires
 put-time-requires c κs =
-    (good-minute (start (c .before) .args .e) (start (c .before) .pre .good), omega (arith, length-part _ _ _ _ (number-spaced (c .before)), start (c .before) .pre .room))
+    let s = first (c .before) in
+    record {
+      in-day = good-minute (s .args .e) (s .pre .good);
+      room = omega (arith, length-part _ _ _ _ (number-spaced (c .before)), s .pre .room);
+    }
 
 slice-write-page-2 : tie.Need-slice-write-page-2
-slice-write-page-2 c = omega (arith, as-long _ _ _ _ (time-begun c), start (numberBefore c) .pre .room)
+slice-write-page-2 c = omega (arith, as-long _ _ _ _ (time-begun c), second c .pre .room)
 
 sub-put-name : tie.Need-sub-put-name
-sub-put-name c = omega (arith, as-long _ _ _ _ (time-spaced (c .before .before)), start (numberBefore (c .before .before)) .pre .room)
+sub-put-name c = omega (arith, as-long _ _ _ _ (time-spaced (c .before .before)), second (c .before .before) .pre .room)
 
 part-put-name-start : tie.Need-part-put-name-start
-part-put-name-start c = omega (arith, as-long _ _ _ _ (time-spaced (c .before .before)), start (numberBefore (c .before .before)) .pre .room)
+part-put-name-start c = omega (arith, as-long _ _ _ _ (time-spaced (c .before .before)), second (c .before .before) .pre .room)
 
 put-name-requires : tie.Need-put-name-requires
 put-name-requires c κs =
-    let t = c .before .before .before in
-    let s = start (numberBefore t) in
-    (good-length (s .args .e) (s .pre .good), omega (arith, length-part _ _ _ _ (time-spaced t), s .pre .room))
+    let at-time = c .before .before .before in
+    let s = second at-time in
+    record {
+      short = good-length (s .args .e) (s .pre .good);
+      room = omega (arith, length-part _ _ _ _ (time-spaced at-time), s .pre .room);
+    }
 
 slice-write-page-3 : tie.Need-slice-write-page-3
-slice-write-page-3 c = omega (arith, as-long _ _ _ _ (name-begun c), start (numberBefore (timeBefore c)) .pre .room)
+slice-write-page-3 c = omega (arith, as-long _ _ _ _ (name-begun c), third c .pre .room)
 
 same-length : tie.Need-same-length
-same-length c = as-long _ _ _ _ (all-begun c)
+same-length c = as-long _ _ _ _ (line-begun c)
 
 returns : tie.Need-returns
-returns c = line-made _ _ _ (all-begun c)
+returns c = line-made _ _ _ (line-begun c)
 
 pub put-line-spec : {M : Type 1} → statement M
 put-line-spec =

@@ -1,7 +1,7 @@
 -- `wall_page::put_lines` meets its contract. The invariant: the page begins with the lines of the
 -- first r entries, and goes on as it was. Assumes nothing.
 use Prim.Native.Nat.{_+_, _-_, _*_, _≤_}
-use mathlib.Core.Path.{_≡_, sym, _∙_}
+use mathlib.Core.Path.{_≡_}
 use native.Mathlib.Omega.{arith}
 use borrow.Author.Needs.{needs}
 use lib.ListN.{length, take}

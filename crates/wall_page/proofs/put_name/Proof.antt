@@ -1,8 +1,8 @@
 -- `wall_page::put_name` meets its contract. The invariant: the first i columns are written. Assumes
 -- nothing.
 use Prim.Native.Nat.{_-_, _≤_}
-use mathlib.Core.Path.{_≡_, refl, sym, ap, _∙_}
-use mathlib.Core.List.{List, _++_}
+use mathlib.Core.Path.{_≡_, refl}
+use mathlib.Core.List.{_++_}
 use native.Mathlib.Omega.{arith}
 use borrow.Author.Needs.{needs}
 use lib.ListN.{length, drop, length-set}
@@ -42,7 +42,7 @@ loop-again c =
     let l = c .before .before .loop in
     let s = c .before .before .before .before in
     let a = s .args in
-    (omega arith, simp length-set (l .inv .1), name-more (nameByte (a .t1) (a .size)) (a .page .now) (l .page) (l .i) (c .name-byte .result) (omega (arith, s .pre .1)) (l .inv .2) (c .name-byte .ensures))
+    (omega arith, simp length-set (l .inv .1), name-more (nameByte (a .t1) (a .size)) (a .page .now) (l .page) (l .i) (c .name-byte .result) (omega (arith, s .pre .room)) (l .inv .2) (c .name-byte .ensures))
 
 same-length : tie.Need-same-length Inv-loop μ-loop
 same-length c = c .before .loop .inv .1
@@ -53,7 +53,7 @@ returns c =
     let s = c .before .before .before in
     let a = s .args in
     let e : l .i ≡ 32 = omega arith in
-    rw (e, name-made (a .t1) (a .size) (omega (arith, s .pre .0)) (s .pre .0)) at (l .inv .2)
+    rw (e, name-made (a .t1) (a .size) (omega (arith, s .pre .short)) (s .pre .short)) at (l .inv .2)
 
 pub put-name-spec : {M : Type 1} → statement M
 put-name-spec =

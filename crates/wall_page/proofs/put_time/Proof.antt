@@ -13,7 +13,7 @@ returns : tie.Need-returns
 unfolding timeOf
 returns c =
     let m = c .args .minute in
-    five-put (c .args .page .now) (48 + m / 60 / 10) (48 + m / 60 % 10) 58 (48 + m % 60 / 10) (48 + m % 60 % 10) (c .pre .1)
+    five-put (c .args .page .now) (48 + m / 60 / 10) (48 + m / 60 % 10) 58 (48 + m % 60 / 10) (48 + m % 60 % 10) (c .pre .room)
 
 pub put-time-spec : {M : Type 1} → statement M
 put-time-spec =
