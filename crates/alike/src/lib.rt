@@ -3,6 +3,8 @@
 //
 // Public calls: `alike_bytes` and `alike_words` compare two blocks, `same_bytes` and `same_words` a
 // block with one element. None asks anything of its arguments.
+#![tactic(auto)]
+
 ghost use Rattle.std.specs.Prelude.{◌≡◌, cond, ◌+◌, ◌*◌, ◌<◌, eqb, get_or};
 ghost use Rattle.bits.specs.Bits.{eight_bits, number_of};
 

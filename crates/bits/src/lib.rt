@@ -2,6 +2,8 @@
 //
 // Public calls: `first` is the low n bits, `least` and `greatest` find a set bit; `min` is the
 // lesser of two numbers. None asks anything of its arguments.
+#![tactic(auto)]
+
 ghost use Rattle.std.specs.Prelude.{◌≡◌, cond, ◌-◌, min, eqb, ltb};
 ghost use Rattle.std.specs.Int.Count.{count_leading_zeros, count_trailing_zeros};
 ghost use Rattle.bits.specs.Bits.{number_of};

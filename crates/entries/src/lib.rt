@@ -23,7 +23,7 @@ pub const ENTRY_REFUSED: u32 = 33;
 
 // An entry of document 02, a service: its entry number, a minute of the day, and a name, which is
 // the first `length` bytes of `name`. The fields can hold what is refused.
-#[derive(Drop)]
+#[derive(Clone, Copy)]
 pub struct Entry {
     pub number: u32,
     pub minute: u16,

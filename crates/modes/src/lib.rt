@@ -5,6 +5,8 @@
 // the module of each width, the index of `pcmpestri` at one control: `bytes::index_0c` and
 // `index_18`, `words::index_0d` and `index_19`; and `value`, what an element stands for. None asks
 // anything of its arguments.
+#![tactic(auto)]
+
 pub mod bytes;
 pub mod words;
 

@@ -13,7 +13,7 @@ ghost use Rattle.orders.specs.Orders.{order_refusal, sign};
 
 // The answer of `compare`: -1 where the first text is smaller, 0 where they are equal, else 1.
 // Refused, `refusal` is the number and `order` 0.
-#[derive(Drop)]
+#[derive(Clone, Copy)]
 pub struct OrderAnswer {
     pub refusal: u32,
     pub order: i32,

@@ -8,6 +8,8 @@
 // control. Data flows through `stages::fields`, then `modes`, then `stages::index` or
 // `stages::mask`.
 
+#![tactic(auto)]
+
 ghost use Rattle.std.specs.Prelude.{◌≡◌, pos};
 ghost use Rattle.unit.specs.Calls.{PCMPESTRI, PCMPESTRM, PCMPISTRI, PCMPISTRM};
 

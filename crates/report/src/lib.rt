@@ -37,7 +37,7 @@ const TOTALS_LINE: usize = 19;
 
 // The answer of `report`: the number that refuses the input, or 0, and how many bytes were written
 // at the front of the page. Refused, none were.
-#[derive(Drop)]
+#[derive(Clone, Copy)]
 pub struct ReportAnswer {
     pub refusal: u32,
     pub written: usize,
@@ -45,7 +45,7 @@ pub struct ReportAnswer {
 
 // How far a list of calls has got: the matches so far, the cursor, and whether another match may
 // follow.
-#[derive(Drop)]
+#[derive(Clone, Copy)]
 struct Tally {
     matches: usize,
     cursor: Cursor,

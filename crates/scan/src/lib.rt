@@ -16,7 +16,7 @@ ghost use Rattle.scan.specs.Letters.{unasked_in};
 
 // What a scan comes to: how many blocks came before the one that ended it, and the index in that
 // one. Where the part ran out of whole blocks, the index is b.
-#[derive(Drop)]
+#[derive(Clone, Copy)]
 pub struct Scanned {
     pub blocks: usize,
     pub index: u32,

@@ -15,14 +15,14 @@ pub const NUMBER_REFUSED: u32 = 34;
 
 // A day of document 02, held by value: the first `count` entries are those of the day, in their
 // order; the other places are zero.
-#[derive(Drop)]
+#[derive(Clone, Copy)]
 pub struct Day {
     pub entries: [Entry; entries::MOST_ENTRIES],
     pub count: usize,
 }
 
 // The answer of `day_of`. Refused, `refusal` is the number and the day is of zeros.
-#[derive(Drop)]
+#[derive(Clone, Copy)]
 pub struct DayAnswer {
     pub refusal: u32,
     pub day: Day,

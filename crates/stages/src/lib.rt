@@ -5,6 +5,8 @@
 // Public calls, in the order in which data flows: `fields::decode`; `operand::count_of`,
 // `explicit_length`, `word`, `words_of`; `negation::negated`; `index::answer`, `mask::answer`, and
 // of a refused call `index::refused`, `mask::refused`. None asks anything of its arguments.
+#![tactic(auto)]
+
 pub mod fields;
 pub mod index;
 pub mod mask;

@@ -50,23 +50,23 @@ module _ (k : Control) (l₁ l₂ : ℕ) (x₁ x₂ y₁ y₂ : List ℕ) (p : (
       bits_same
 
 -- a call answers for its control and its operands
-index_of : (p : Call) → index_call p ≡ cond (ltb (control_byte p) 128) (index_answer (operands_of p)) refused_index
+index_of_lem : (p : Call) → index_call p ≡ cond (ltb (control_byte p) 128) (index_answer (operands_of p)) refused_index
 unfolding PCMPESTRI PCMPISTRI
-index_of (Explicit x₁ l₁ x₂ l₂ c) = refl
-index_of (Implicit x₁ x₂ c) = refl
+index_of_lem (Explicit x₁ l₁ x₂ l₂ c) = refl
+index_of_lem (Implicit x₁ x₂ c) = refl
 
-mask_of : (p : Call) → mask_call p ≡ cond (ltb (control_byte p) 128) (mask_answer (operands_of p)) refused_mask
+mask_of_lem : (p : Call) → mask_call p ≡ cond (ltb (control_byte p) 128) (mask_answer (operands_of p)) refused_mask
 unfolding PCMPESTRM PCMPISTRM
-mask_of (Explicit x₁ l₁ x₂ l₂ c) = refl
-mask_of (Implicit x₁ x₂ c) = refl
+mask_of_lem (Explicit x₁ l₁ x₂ l₂ c) = refl
+mask_of_lem (Implicit x₁ x₂ c) = refl
 
-control_of : (p : Call) → (operands_of p).control ≡ control_of (control_byte p)
-control_of (Explicit x₁ l₁ x₂ l₂ c) = refl
-control_of (Implicit x₁ x₂ c) = refl
+control_of_lem : (p : Call) → (operands_of p).control ≡ control_of (control_byte p)
+control_of_lem (Explicit x₁ l₁ x₂ l₂ c) = refl
+control_of_lem (Implicit x₁ x₂ c) = refl
 
 module _ (p q : Call) (h : Agree p q) where
   same_control : (operands_of p).control ≡ (operands_of q).control
-  same_control = control_of p ∙ ap control_of h.control ∙ sym (control_of q)
+  same_control = control_of_lem p ∙ ap control_of h.control ∙ sym (control_of_lem q)
 
   -- p's elements under q's control and lengths
   abbrev meeting : Operands
@@ -97,12 +97,12 @@ module _ (p q : Call) (h : Agree p q) where
   -- alike too.
   pub index_by_valid_elements : index_call p ≡ index_call q
   index_by_valid_elements =
-      index_of p
+      index_of_lem p
       ∙ (λ t. cond (ltb (h.control t) 128) (same_index t) refused_index)
-      ∙ sym (index_of q)
+      ∙ sym (index_of_lem q)
 
   pub mask_by_valid_elements : mask_call p ≡ mask_call q
   mask_by_valid_elements =
-      mask_of p
+      mask_of_lem p
       ∙ (λ t. cond (ltb (h.control t) 128) (same_mask t) refused_mask)
-      ∙ sym (mask_of q)
+      ∙ sym (mask_of_lem q)

@@ -7,7 +7,7 @@
 pub const CONTROL_REFUSED: u32 = 1;
 
 // How the comparisons of single elements are aggregated into IntRes1: control bits 3:2.
-#[derive(Drop)]
+#[derive(Clone, Copy)]
 pub enum Aggregation {
     EqualAny,
     Ranges,
@@ -16,7 +16,7 @@ pub enum Aggregation {
 }
 
 // What becomes of IntRes1: control bits 5:4.
-#[derive(Drop)]
+#[derive(Clone, Copy)]
 pub enum Polarity {
     Positive,
     Negative,
@@ -26,7 +26,7 @@ pub enum Polarity {
 
 // The control byte, taken apart. `high` is output selection, bit 6: the most significant index, or
 // the byte/word mask.
-#[derive(Drop)]
+#[derive(Clone, Copy)]
 pub struct Control {
     pub words: bool,
     pub signed: bool,
@@ -36,7 +36,7 @@ pub struct Control {
 }
 
 // CF, ZF, SF, OF, AF and PF.
-#[derive(Drop)]
+#[derive(Clone, Copy)]
 pub struct Flags {
     pub carry: bool,
     pub zero: bool,
@@ -48,7 +48,7 @@ pub struct Flags {
 
 // The answer of the index calls. Refused, `refusal` is the number and every other field zero or
 // false.
-#[derive(Drop)]
+#[derive(Clone, Copy)]
 pub struct IndexAnswer {
     pub refusal: u32,
     pub index: u32,
@@ -56,7 +56,7 @@ pub struct IndexAnswer {
 }
 
 // The answer of the mask calls, refused in the same way.
-#[derive(Drop)]
+#[derive(Clone, Copy)]
 pub struct MaskAnswer {
     pub refusal: u32,
     pub mask: [u8; 16],
@@ -65,7 +65,7 @@ pub struct MaskAnswer {
 
 // IntRes2 as a number, bit j of it bit j of the number, and the effective lengths of the two
 // operands.
-#[derive(Drop)]
+#[derive(Clone, Copy)]
 pub struct Compared {
     pub bits: u32,
     pub length1: usize,

@@ -51,7 +51,7 @@ const LENGTHS: [i64; 32] = [
 ];
 
 // The four calls.
-#[derive(Drop)]
+#[derive(Clone, Copy)]
 enum Call {
     Pcmpestri,
     Pcmpestrm,
@@ -60,14 +60,14 @@ enum Call {
 }
 
 // An operand, and the generator's state after it.
-#[derive(Drop)]
+#[derive(Clone, Copy)]
 struct Drawn {
     bytes: [u8; 16],
     state: u64,
 }
 
 // What a call is run on, and the generator's state after it.
-#[derive(Drop)]
+#[derive(Clone, Copy)]
 struct Block {
     operand1: [u8; 16],
     length1: i64,
