@@ -3,6 +3,8 @@
 //
 // Public call: `right_justified`. It asks nothing of its arguments, and answers 0, or the number by
 // which it refuses them.
+#![tactic(auto)]
+
 ghost use Rattle.std.specs.Prelude.{◌+◌, ◌-◌, ◌≤◌, ◌<◌, ◌≡◌, ◌++◌, length, take, drop, replicate};
 ghost use Rattle.decimal.specs.Decimal.{digits, refusal_for, RightJustified};
 
