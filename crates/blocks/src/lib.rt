@@ -7,6 +7,8 @@
 // arguments. The two of a pair say the same: of a part that is too long the first sixteen bytes, or
 // eight words, are taken. `whole_..` is the quick one where the part is a whole block, `padded_..`
 // where it is shorter.
+#![tactic(auto)]
+
 ghost use Rattle.std.specs.Prelude.{◌≡◌, ◌/◌, ◌%◌, min, length};
 ghost use Rattle.unit.specs.Operand.{in_bytes, in_words};
 ghost use Rattle.blocks.specs.Blocks.{compare_index, each_negated, operand_byte, operand_of, stores};
