@@ -5,6 +5,8 @@
 // - `compare` tells the order of two texts, and `lesser` gives back the smaller;
 // - `lesser_refusal` takes the arguments of `lesser` and tells the number that refuses it, or 0.
 // This file has what is the same for both widths.
+#![tactic(auto)]
+
 pub mod bytes;
 pub mod words;
 

@@ -7,6 +7,8 @@
 // - `agree` compares two parts piece by piece, up to the first that differs.
 //
 // This file has what is the same for both widths.
+#![tactic(auto)]
+
 pub mod bytes;
 pub mod words;
 

@@ -7,6 +7,8 @@
 // - `span_refusal` and `range_span_refusal` take the same arguments and tell the number that
 //   refuses the call, or 0.
 // This file has what is the same for both widths.
+#![tactic(auto)]
+
 pub mod bytes;
 pub mod words;
 

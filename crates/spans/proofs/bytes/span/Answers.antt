@@ -1,0 +1,44 @@
+-- `spans::bytes::span` meets its contract: refused, it gives the empty front; accepted, the front
+-- as long as the span. Assumes nothing.
+use mathlib.Core.Path.{refl}
+use mathlib.Core.Bool.{false}
+use lib.ListN.{length, length-take}
+use native.Mathlib.Omega.{arith}
+use borrow.Author.Rules.{rules}
+use Rattle.unit.specs.Operand.{in_bytes}
+use Rattle.spans.specs.BlockFront.{belongs}
+use Rattle.spans.proofs.Calls.{set_refused, set_given, set_accepted}
+use Rattle.spans.proofs.Fronts.{within}
+use Rattle.spans.proofs.bytes.span.Goals as goal
+
+pub returns-then-span_refusal-gt0 : goal.returns-then-span_refusal-gt0
+returns-then-span_refusal-gt0 c =
+    let a = c.args in
+    let r = c.span_refusal in
+    (refl, set_refused in_bytes a.text.now a.set.now r.result r.ensures (omega arith))
+
+pub returns : goal.returns
+returns c =
+    let a = c.args in
+    let r = c.span_refusal in
+    (refl, set_given in_bytes a.text.now a.set.now r.result r.ensures (omega arith) c.length_of_span-k.result c.length_of_span-k.ensures)
+
+{- pub span-spec : {M : Type 1} → statement M
+span-spec =
+    tie.close
+    (tie.spec
+    span-refusal-requires
+    slice-aggregate-result
+    returns
+    length-of-span-requires
+    slice-aggregate-result-2
+    returns-2)
+ -}
+
+-- OPEN
+pub length_of_span-k-requires : goal.length_of_span-k-requires
+length_of_span-k-requires c = ?
+
+-- OPEN
+pub slice_bounds-result-end-2 : goal.slice_bounds-result-end-2
+slice_bounds-result-end-2 c = ?

@@ -1,0 +1,13 @@
+use Prim.Native.Nat.{◌-◌, ◌≤◌}
+use mathlib.Core.Path.{refl}
+use lib.ListN.{length}
+use native.Mathlib.Omega.{arith}
+use Rattle.unit.specs.Operand.{in_words}
+use Rattle.spans.proofs.Indexes.{control_small, ClearTo, clear_to_start, span_ends, span_goes_on, span_whole}
+use Rattle.spans.proofs.words.length_of_span.Given as goal
+
+abbrev pub invariant-loop-i : goal.invariant-loop-i
+invariant-loop-i l = (l.i ≤ length l.text) × ClearTo in_words l.ranges l.signed l.list l.text l.i
+
+abbrev pub decreases-loop-i : goal.decreases-loop-i
+decreases-loop-i l = length l.text - l.i
