@@ -1,12 +1,10 @@
 -- `scan::unasked` meets its contract. The invariant: the first k places of the rows are filled.
 -- Assumes nothing.
-use Prim.Native.Nat.{◌≤◌, ◌-◌}
-use mathlib.Core.Path.{◌≡◌, refl}
-use lib.ListN.{length, take}
+use mathlib.Core.Path.{refl}
 use native.Mathlib.Omega.{arith}
 use borrow.Author.Rules.{rules}
 use Rattle.bits.specs.Bits.{tabulate}
-use Rattle.bits.proofs.Lists.{fill, filled}
+use Rattle.bits.proofs.Lists.{fill}
 use Rattle.scan.specs.Letters.{unasked_in}
 use Rattle.scan.proofs.unasked.Goals as goal
 

@@ -1,10 +1,7 @@
 use Prim.Native.Nat.{◌≤◌, ◌-◌}
-use mathlib.Core.Path.{◌≡◌, refl}
+use mathlib.Core.Path.{◌≡◌}
 use lib.ListN.{length, take}
-use native.Mathlib.Omega.{arith}
-use borrow.Author.Rules.{rules}
 use Rattle.bits.specs.Bits.{tabulate}
-use Rattle.bits.proofs.Lists.{fill, filled}
 use Rattle.scan.specs.Letters.{unasked_in}
 use Rattle.scan.proofs.unasked.Given as goal
 

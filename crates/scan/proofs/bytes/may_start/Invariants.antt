@@ -1,11 +1,7 @@
 use Prim.Native.Nat.{ℕ, ◌-◌, ◌≤◌, ◌<◌}
-use mathlib.Core.Path.{◌≡◌, sym}
+use mathlib.Core.Path.{◌≡◌}
 use mathlib.Core.Bool.{false}
-use lib.ListN.{get_or}
-use native.Mathlib.Omega.{arith}
-use borrow.Author.Rules.{rules}
 use Rattle.scan.specs.Letters.{starts_at}
-use Rattle.scan.proofs.Scans.{first_letter, place_more}
 use Rattle.scan.proofs.bytes.may_start.Given as goal
 
 abbrev pub invariant-loop-j : goal.invariant-loop-j

@@ -1,11 +1,6 @@
-use Prim.Native.Nat.{ℕ, ◌+◌, ◌-◌, ◌*◌, ◌≤◌}
-use mathlib.Core.Path.{◌≡◌, refl, ◌∙◌}
-use native.Mathlib.Omega.{arith}
-use borrow.Author.Rules.{rules}
+use Prim.Native.Nat.{◌-◌}
 use Rattle.unit.specs.Operand.{in_bytes}
-use Rattle.blocks.proofs.Compares.{part_size}
 use Rattle.scan.specs.Letters.{Reached}
-use Rattle.scan.proofs.Scans.{block_passed, first_asked}
 use Rattle.scan.proofs.bytes.pass.Given as goal
 
 abbrev pub invariant-loop-i : goal.invariant-loop-i

@@ -1,12 +1,6 @@
-use Prim.Native.Nat.{◌+◌, ◌-◌, ◌*◌, ◌≤◌}
-use mathlib.Core.Path.{◌≡◌, refl, ◌∙◌}
-use native.Mathlib.Omega.{arith}
-use borrow.Author.Rules.{rules}
-use borrow.Author.Tests.{lt-ltb, le-ltb}
-use lib.Dec.{ltb}
+use Prim.Native.Nat.{◌-◌, ◌≤◌}
 use Rattle.unit.specs.Operand.{in_words}
-use Rattle.scan.specs.Scan.{pieces_differ}
-use Rattle.scan.proofs.Pieces.{Agreed, agreed_all, agreed_ended, agreed_more, count_even, count_odd, piece_differs_lem, whole_differs}
+use Rattle.scan.proofs.Pieces.{Agreed}
 use Rattle.scan.proofs.words.agree.Given as goal
 
 abbrev pub invariant-loop-i : goal.invariant-loop-i

@@ -1,11 +1,8 @@
 use Prim.Native.Nat.{ℕ, ◌-◌, ◌≤◌, ◌<◌}
-use mathlib.Core.Path.{◌≡◌, sym, ap, ◌∙◌}
+use mathlib.Core.Path.{◌≡◌}
 use mathlib.Core.Bool.{false}
-use native.Mathlib.Omega.{arith}
-use borrow.Author.Rules.{rules}
 use Rattle.unit.specs.Operand.{words_of}
-use Rattle.scan.specs.Letters.{stands_at, starts_at}
-use Rattle.scan.proofs.Scans.{letter_is, place_more}
+use Rattle.scan.specs.Letters.{starts_at}
 use Rattle.scan.proofs.words.may_start.Given as goal
 
 abbrev pub invariant-loop-j : goal.invariant-loop-j

@@ -1,11 +1,6 @@
-use Prim.Native.Nat.{ℕ, ◌+◌, ◌-◌, ◌*◌, ◌≤◌}
-use mathlib.Core.Path.{◌≡◌, refl, ◌∙◌}
-use native.Mathlib.Omega.{arith}
-use borrow.Author.Rules.{rules}
+use Prim.Native.Nat.{◌-◌}
 use Rattle.unit.specs.Operand.{in_words}
-use Rattle.blocks.proofs.Compares.{part_size}
 use Rattle.scan.specs.Letters.{Reached}
-use Rattle.scan.proofs.Scans.{block_passed}
 use Rattle.scan.proofs.words.pass.Given as goal
 
 abbrev pub invariant-loop-i : goal.invariant-loop-i

@@ -1,32 +1,28 @@
 -- `spans::bytes::length_of_span` meets its contract. The invariant: every element before i belongs.
 -- Assumes nothing.
-use Prim.Native.Nat.{◌-◌, ◌≤◌}
 use mathlib.Core.Path.{refl}
-use lib.ListN.{length}
 use native.Mathlib.Omega.{arith}
 use Rattle.unit.specs.Operand.{in_bytes}
-use Rattle.spans.proofs.Indexes.{ClearTo, clear_to_start, span_ends, span_goes_on, span_whole}
+use Rattle.spans.proofs.Indexes.{span_ends, span_goes_on, span_whole}
 use Rattle.spans.proofs.bytes.length_of_span.Goals as goal
 
 pub returns-then-belong-lt16 : goal.returns-then-belong-lt16
 returns-then-belong-lt16 c =
-    let at-loop = c in
-    let o = at-loop.padded-bytes in
-    let v = at-loop.span-control in
-    let a = at-loop.args in
+    let o = c.padded_bytes-operand in
+    let v = c.span_control-control in
+    let a = c.args in
     let k = c.front-belong in
-    span_ends in_bytes a.ranges a.signed a.list.now a.text.now at-loop.loop.i k.result _ o.result _
-    o.ensures refl (omega (arith, v.ensures)) (omega arith) (omega arith) at-loop.loop.invariant.1 k.ensures (omega arith)
+    span_ends in_bytes a.ranges a.signed a.list.now a.text.now c.loop-i.i k.result _ o.result _
+    o.ensures refl (omega (arith, v.ensures)) (omega arith) (omega arith) c.loop-i.invariant.1 k.ensures (omega arith)
 
 pub loop-i-preserved : goal.loop-i-preserved
 loop-i-preserved c =
-    let at-loop = c in
-    let o = at-loop.padded-bytes in
-    let v = at-loop.span-control in
-    let a = at-loop.args in
+    let o = c.padded_bytes-operand in
+    let v = c.span_control-control in
+    let a = c.args in
     let k = c.front-belong in
-    span_goes_on in_bytes a.ranges a.signed a.list.now a.text.now at-loop.loop.i k.result _ o.result _
-    o.ensures refl (omega (arith, v.ensures)) (omega arith) (omega arith) at-loop.loop.invariant.1 k.ensures (omega arith)
+    span_goes_on in_bytes a.ranges a.signed a.list.now a.text.now c.loop-i.i k.result _ o.result _
+    o.ensures refl (omega (arith, v.ensures)) (omega arith) (omega arith) c.loop-i.invariant.1 k.ensures (omega arith)
 
 pub returns : goal.returns
 returns c =

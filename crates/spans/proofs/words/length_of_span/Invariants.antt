@@ -1,9 +1,7 @@
 use Prim.Native.Nat.{◌-◌, ◌≤◌}
-use mathlib.Core.Path.{refl}
 use lib.ListN.{length}
-use native.Mathlib.Omega.{arith}
 use Rattle.unit.specs.Operand.{in_words}
-use Rattle.spans.proofs.Indexes.{control_small, ClearTo, clear_to_start, span_ends, span_goes_on, span_whole}
+use Rattle.spans.proofs.Indexes.{ClearTo}
 use Rattle.spans.proofs.words.length_of_span.Given as goal
 
 abbrev pub invariant-loop-i : goal.invariant-loop-i
