@@ -3,6 +3,8 @@
 //
 // Public calls: `Entry::empty`; `is_bad`, `cleared` and `precedes`, by value on an entry;
 // `form_refusal`, which tests entries one by one.
+#![tactic(auto)]
+
 ghost use Rattle.std.specs.Prelude.{◌≡◌, ◌≤◌, cond, ltb, take};
 ghost use Rattle.unit.specs.Operand.{in_bytes};
 ghost use Rattle.orders.specs.Orders.{order};

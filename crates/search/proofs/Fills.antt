@@ -2,7 +2,7 @@
 -- positions found so far stand in front of the list, and what the fill comes to is those, then the
 -- fill of the places left from the cursor of the present match on. Assumes nothing.
 use Prim.Native.Nat.{ℕ, zero, suc, ◌+◌, ◌-◌, ◌≤◌, ◌<◌}
-use mathlib.Core.Path.{◌≡◌, refl, sym, ap, ◌∙◌}
+use mathlib.Core.Path.{◌≡◌, refl, sym, ap, subst, ◌∙◌}
 use mathlib.Core.Bool.{Bool, true, false, cond}
 use mathlib.Core.List.{List, [], ◌∷◌, ◌++◌, append-nil, append_assoc}
 use lib.Dec.{ltb}
@@ -285,3 +285,7 @@ module _ (words : Bool) (text needle : List ℕ) where
       by_answer (Match p d) o f g = later_23 k d number o f
       by_answer (Absent d) o f g = absurd (omega arith)
       by_answer (Refused r d) o f g = absurd (omega arith)
+
+-- The walk from a cursor that is the one that came in is the walk from that one.
+pub same_walk : {next : Cursor → Next} {from c : Cursor} {list list' : List ℕ} {w : Walked} → from ≡ c → Walks next from list w list' → Walks next c list w list'
+same_walk {next} {list = list} {list' = list'} {w = w} e = subst (λ (x : Cursor). Walks next x list w list') e
