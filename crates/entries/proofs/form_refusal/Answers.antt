@@ -1,12 +1,8 @@
 -- `entries::form_refusal` meets its contract. The invariant: no entry before the place is bad.
 -- Assumes nothing.
-use Prim.Native.Nat.{◌-◌, ◌≤◌}
-use mathlib.Core.Path.{◌≡◌, refl, sym, ◌∙◌}
-use mathlib.Core.Bool.{false}
+use mathlib.Core.Path.{◌≡◌, sym, ◌∙◌}
 use native.Mathlib.Omega.{arith}
-use borrow.Author.Rules.{rules}
-use Rattle.bits.specs.Bits.{any_below}
-use Rattle.entries.proofs.Tests.{any_next, bad_at, none_bad, one_bad, too_many}
+use Rattle.entries.proofs.Tests.{none_bad, one_bad, too_many}
 use Rattle.entries.proofs.form_refusal.Goals as goal
 
 pub returns-then-count-gt-MOST_ENTRIES : goal.returns-then-count-gt-MOST_ENTRIES

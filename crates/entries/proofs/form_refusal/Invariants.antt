@@ -1,10 +1,8 @@
 use Prim.Native.Nat.{◌-◌, ◌≤◌}
-use mathlib.Core.Path.{◌≡◌, refl, sym, ◌∙◌}
+use mathlib.Core.Path.{◌≡◌}
 use mathlib.Core.Bool.{false}
-use native.Mathlib.Omega.{arith}
-use borrow.Author.Rules.{rules}
 use Rattle.bits.specs.Bits.{any_below}
-use Rattle.entries.proofs.Tests.{any_next, bad_at, none_bad, one_bad, too_many}
+use Rattle.entries.proofs.Tests.{bad_at}
 use Rattle.entries.proofs.form_refusal.Given as goal
 
 abbrev pub invariant-loop-place : goal.invariant-loop-place

@@ -1,5 +1,4 @@
 -- `entries::Entry::cleared` meets its contract, by its definition. Assumes nothing.
-use borrow.Author.Rules.{rules}
 use Rattle.entries.specs.Entries.{cleared_entry}
 use Rattle.entries.proofs.Entry.cleared.Goals as goal
 

@@ -1,7 +1,6 @@
 -- `entries::Entry::is_bad` meets its contract: the minute is tested, then the length. Assumes
 -- nothing.
 use mathlib.Core.Path.{sym}
-use borrow.Author.Rules.{rules}
 use Rattle.entries.proofs.Tests.{bad_minute, length_left}
 use Rattle.entries.proofs.Entry.is_bad.Goals as goal
 

@@ -1,7 +1,6 @@
 -- `entries::Entry::precedes` meets its contract, test by test. Assumes nothing.
 use mathlib.Core.Path.{◌∙◌}
 use native.Mathlib.Omega.{arith}
-use borrow.Author.Rules.{rules}
 use mir.Syntax.{w32}
 use mir.ValLaws.{to_z-of_z}
 use Rattle.entries.proofs.Compares.{minute_less, minute_more, name_less, name_more, name_same}
