@@ -1,6 +1,6 @@
 -- An entry as C has it in memory, forty bytes: its number in four, its minute in two, its name's
 -- length in two, each low byte first, and the name in thirty-two.
-use Prim.Native.Nat.{ℕ, suc, ◌+◌, ◌*◌, ◌/◌, ◌%◌}
+use Prim.Native.Nat.{ℕ, zero, suc, ◌+◌, ◌*◌, ◌/◌, ◌%◌}
 use Rattle.std.specs.Prelude.{List, [], ◌∷◌, ◌++◌, map, get_or, take}
 use Rattle.bits.specs.Bits.{tabulate}
 use Rattle.entries.specs.declared.Entry.{Entry}
@@ -8,12 +8,12 @@ use Rattle.entries.specs.Entries.{filled, longest_name, most_entries}
 
 -- k bytes from byte i on as a number, the low one first
 abbrev pub number_at : List ℕ → ℕ → ℕ → ℕ
-number_at bytes i Prim.Native.Nat.zero = 0
+number_at bytes i zero = 0
 number_at bytes i (suc k) = get_or bytes i 0 + 256 * number_at bytes (suc i) k
 
 -- a number as k bytes, the low one first
 abbrev pub bytes_of : ℕ → ℕ → List ℕ
-bytes_of Prim.Native.Nat.zero n = []
+bytes_of zero n = []
 bytes_of (suc k) n = n % 256 ∷ bytes_of k (n / 256)
 
 -- the entry of forty bytes

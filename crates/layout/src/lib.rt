@@ -2,6 +2,8 @@
 // in two, its name's length in two, each low byte first, and the name in thirty-two.
 //
 // Public calls: `entries_of` reads entries, `write_entries` writes those of a day.
+#![tactic(auto)]
+
 ghost use Rattle.std.specs.Prelude.{◌≡◌, map, ◌+◌, ◌*◌};
 ghost use Rattle.layout.specs.Layout.{entries_of, entry_of, row_of};
 

@@ -5,6 +5,8 @@
 // `refusal_line`, the one line that is printed where `report` refuses the input. Neither asks
 // anything of its arguments. The needle is the input up to its first line feed, the text all after
 // it.
+#![tactic(auto)]
+
 ghost use Rattle.std.specs.Prelude.{◌≡◌, true, ◌++◌, ◌+◌, ◌≤◌, ◌<◌, length, drop};
 ghost use Rattle.search.specs.Cursors.{fresh_cursor};
 ghost use Rattle.report.specs.Report.{feed_at, listing, longest_input, number_line, refusal_line, Reported, totals_line};

@@ -47,11 +47,11 @@ pub entries_long : (es : List Entry) (ks : List ℕ) → length (entries_at es k
 unfolding entries_at
 entries_long es ks = length-map ks (λ k. get_or es k no_entry)
 
-pub entries_at : (es : List Entry) (ks : List ℕ) (i : ℕ) (d : Entry) → i < length ks → get_or (entries_at es ks) i d ≡ get_or es (get_or ks i 0) no_entry
+pub entries_at_lem : (es : List Entry) (ks : List ℕ) (i : ℕ) (d : Entry) → i < length ks → get_or (entries_at es ks) i d ≡ get_or es (get_or ks i 0) no_entry
 unfolding entries_at
-entries_at es [] i d h = absurd (omega arith)
-entries_at es (k ∷ ks) zero d h = refl
-entries_at es (k ∷ ks) (suc i) d h = entries_at es ks i d (omega arith)
+entries_at_lem es [] i d h = absurd (omega arith)
+entries_at_lem es (k ∷ ks) zero d h = refl
+entries_at_lem es (k ∷ ks) (suc i) d h = entries_at_lem es ks i d (omega arith)
 
 -- the entries at the first n places, one by one
 pub entries_table : (es : List Entry) (ks : List ℕ) (n : ℕ) → n ≤ length ks → tabulate n (λ i. get_or es (get_or ks i 0) no_entry) ≡ entries_at es (take n ks)
@@ -73,7 +73,7 @@ module _ (es : List Entry) (ks : List ℕ) (i m k : ℕ) (h : m < i) (l : i ≤ 
 
   entry_read : get_or (entries_at es (take i ks)) m no_entry ≡ get_or es k no_entry
   entry_read =
-      entries_at es (take i ks) m no_entry (omega (arith, length-take-le i ks l))
+      entries_at_lem es (take i ks) m no_entry (omega (arith, length-take-le i ks l))
       ∙ ap (λ (j : ℕ). get_or es j no_entry) (get_or-take i ks m 0 h ∙ sym e)
 
 -- ---- halving

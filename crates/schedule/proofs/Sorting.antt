@@ -32,7 +32,7 @@ last e = refl
 
 -- no entry of the list comes before e
 pub data NoneBefore (e : Entry) : List Entry → Type 0 where
-  no_entry : NoneBefore e []
+  no_entry_lem : NoneBefore e []
   and_not : {x : Entry} {xs : List Entry} → precedes x e ≡ false → NoneBefore e xs → NoneBefore e (x ∷ xs)
 
 -- no entry comes before an earlier one
@@ -41,16 +41,16 @@ pub data InOrder : List Entry → Type 0 where
   more : {e : Entry} {xs : List Entry} → NoneBefore e xs → InOrder xs → InOrder (e ∷ xs)
 
 insert_none : {a : Entry} {xs : List Entry} (e : Entry) → NoneBefore a xs → precedes e a ≡ false → NoneBefore a (insert e xs)
-insert_none e no_entry h = rw (last e) (and_not h no_entry)
+insert_none e no_entry_lem h = rw (last e) (and_not h no_entry_lem)
 insert_none e (and_not {x} {xs} p n) h =
     by_test (precedes x e) (λ t. rw (past e x xs t) (and_not p (insert_none e n h))) (λ t. rw (here e x xs t) (and_not h (and_not p n)))
 
 pub none_on : {e x : Entry} {xs : List Entry} → precedes x e ≡ false → NoneBefore x xs → NoneBefore e xs
-none_on h no_entry = no_entry
+none_on h no_entry_lem = no_entry_lem
 none_on {e} {x} h (and_not {x = y} p n) = and_not (precedes_weak.goes_on e x y h p) (none_on h n)
 
 pub insert_in_order : (e : Entry) {xs : List Entry} → InOrder xs → InOrder (insert e xs)
-insert_in_order e empty = rw (last e) (more no_entry empty)
+insert_in_order e empty = rw (last e) (more no_entry_lem empty)
 insert_in_order e (more {e = x} {xs} n s) =
     by_test (precedes x e)
     (λ t. rw (past e x xs t) (more (insert_none e n (precedes_weak.one_way x e t)) (insert_in_order e s)))
@@ -59,7 +59,7 @@ insert_in_order e (more {e = x} {xs} n s) =
 pub all_in_order : {day : List Entry} (es : List Entry) → InOrder day → InOrder (insert_all day es)
 unfolding insert_all
 all_in_order [] s = s
-all_in_order (e ∷ es) s = all_in_order es (insert_in_order e s)
+all_in_order {day = day} (e ∷ es) s = all_in_order {day = insert e day} es (insert_in_order e s)
 
 -- ---- a rearrangement
 
@@ -195,7 +195,7 @@ goes_at z e (x ∷ xs) (suc p) h f g =
     past e x xs (f 0 (omega arith)) ∙ ap (λ (l : List Entry). x ∷ l) (goes_at z e xs p (omega arith) (λ i u. f (suc i) (omega arith)) (λ u. g (omega arith)))
 
 none_at : {e : Entry} {xs : List Entry} (z : Entry) → NoneBefore e xs → (i : ℕ) → i < length xs → precedes (get_or xs i z) e ≡ false
-none_at z no_entry i h = absurd (omega arith)
+none_at z no_entry_lem i h = absurd (omega arith)
 none_at z (and_not p n) zero h = p
 none_at z (and_not p n) (suc i) h = none_at z n i (omega arith)
 

@@ -2,6 +2,8 @@
 // it was entered, makes one day.
 //
 // Public calls: `day_of` makes a day of entries, or tells the number that refuses them.
+#![tactic(auto)]
+
 ghost use Rattle.std.specs.Prelude.{◌≡◌, ◌≤◌, get_or, length, take, eqb};
 ghost use Rattle.bits.specs.Bits.{any_below, tabulate};
 ghost use Rattle.entries.specs.Entries.{filled, most_entries, no_entry};

@@ -85,27 +85,27 @@ printed_time : (m : ℕ) → m ≤ 1439 → Printed (time_of m)
 unfolding time_of
 printed_time m h = printed_two (m / 60) (58 ∷ (48 + m % 60 / 10) ∷ (48 + m % 60 % 10) ∷ []) (omega arith) (printed_both (58 ∷ []) ((48 + m % 60 / 10) ∷ (48 + m % 60 % 10) ∷ []) (printed_one 58 (omega arith) (omega arith)) (printed_two (m % 60) [] (omega arith) (λ i u. absurd (omega arith))))
 
-printed_byte : (x : ℕ) → (32 ≤ printed_byte x) × (printed_byte x ≤ 126)
+printed_byte_lem : (x : ℕ) → (32 ≤ printed_byte x) × (printed_byte x ≤ 126)
 unfolding printed_byte
-printed_byte x =
+printed_byte_lem x =
     by_test (ltb x 32) (λ e. rw e (omega arith, omega arith))
     (λ e. by_test (ltb 126 x) (λ f. rw (e, f) (omega arith, omega arith)) (λ f. rw (e, f) (ltb-false x 32 e, ltb-false 126 x f)))
 
 printed_bytes : (l : List ℕ) → Printed (map printed_byte l)
 printed_bytes [] i h = absurd (omega arith)
-printed_bytes (x ∷ l) zero h = printed_byte x
+printed_bytes (x ∷ l) zero h = printed_byte_lem x
 printed_bytes (x ∷ l) (suc i) h = printed_bytes l i (omega arith)
 
-printed_name : (l : List ℕ) → Printed (name_column l)
+printed_name_lem : (l : List ℕ) → Printed (name_column l)
 unfolding name_column
-printed_name l = printed_both (map printed_byte l) (replicate (32 - length l) 32) (printed_bytes l) (printed_spaces (32 - length l))
+printed_name_lem l = printed_both (map printed_byte l) (replicate (32 - length l) 32) (printed_bytes l) (printed_spaces (32 - length l))
 
 printed_front : (e : Entry) → Accepted e → Printed (up_to_feed e)
 printed_front e h =
     let space = printed_one 32 (omega arith) (omega arith) in
     let number = printed_both (column e.number 10) (32 ∷ []) (printed_number e.number 10) space in
     let time = printed_both (up_to_time e) (time_of e.minute) number (printed_time e.minute (good_minute e h.good)) in
-    printed_both (up_to_name e) (printed_name e) (printed_both (up_to_space e) (32 ∷ []) time space) (printed_name (name_of e))
+    printed_both (up_to_name e) (printed_name e) (printed_both (up_to_space e) (32 ∷ []) time space) (printed_name_lem (name_of e))
 
 others : (e : Entry) → Accepted e → (i : ℕ) → i < 49 → (32 ≤ get_or (line_of e) i 0) × (get_or (line_of e) i 0 ≤ 126)
 unfolding line_of

@@ -3,6 +3,8 @@
 //
 // Public call: `day_page` writes the lines of some entries at the front of a lent page, or tells
 // the number that refuses them.
+#![tactic(auto)]
+
 ghost use Rattle.std.specs.Prelude.{◌≡◌, cond, ◌++◌, ltb, take, drop};
 ghost use Rattle.entries.specs.Entries.{longest_name};
 ghost use Rattle.wall_page.specs.Pages.{name_column, printed_byte, time_of, DayPage};

@@ -1,0 +1,33 @@
+-- `schedule::number_twice` meets its contract. The invariant: no number before i has stood before.
+-- Assumes nothing.
+use mathlib.Core.Path.{◌≡◌, sym, ◌∙◌}
+use mathlib.Core.Bool.{false}
+use native.Mathlib.Omega.{arith}
+use Rattle.entries.proofs.Tests.{any_at, any_next}
+use Rattle.schedule.proofs.Twice.{seen_in, seen_before, twice_by_numbers}
+use Rattle.schedule.proofs.number_twice.Goals as goal
+
+pub returns-then-stands_in : goal.returns-then-stands_in
+returns-then-stands_in c =
+    let l = c.loop-i in
+    let n = c.numbers_of-numbers in
+    sym (any_at (seen_in n.result) c.args.count l.i (omega arith)
+    (sym (seen_before n.result l.i (omega (arith, c.requires))) ∙ sym c.stands_in.ensures ∙ c.if-stands_in.true))
+    ∙ twice_by_numbers c.args.entries n.result c.args.count c.requires n.ensures
+
+pub loop-i-preserved : goal.loop-i-preserved
+loop-i-preserved c =
+    let l = c.loop-i in
+    let n = c.numbers_of-numbers in (
+      omega arith,
+      l.invariant.1,
+      any_next (seen_in n.result) l.i false l.invariant.2
+          (sym (seen_before n.result l.i (omega (arith, c.requires))) ∙ sym c.stands_in.ensures ∙ c.if-stands_in.false),
+    )
+
+pub returns : goal.returns
+returns c =
+    let l = c.loop-i in
+    let n = c.numbers_of-numbers in
+    let e : l.i ≡ c.args.count = omega arith in
+    rw e at l.invariant.2 ∙ twice_by_numbers c.args.entries n.result c.args.count c.requires n.ensures
