@@ -4,6 +4,8 @@
 // Public call, in each of the modules `bytes` and `words`: `worst_case`, given the sizes and two
 // lent buffers, writes the text and the needle, or tells the number that refuses them. This file
 // has what is the same for both widths.
+#![tactic(auto)]
+
 pub mod bytes;
 pub mod words;
 

@@ -1,10 +1,6 @@
 -- `report::feed_at` meets its contract. The invariant: the count is `i` and that of what is left
 -- from `i` on. Assumes nothing.
-use Prim.Native.Nat.{◌+◌, ◌-◌, ◌≤◌}
-use mathlib.Core.Path.{◌≡◌}
 use native.Mathlib.Omega.{arith}
-use lib.ListN.{length, drop}
-use Rattle.report.specs.Report.{feed_at}
 use Rattle.report.proofs.Inputs.{feed_here, feed_later, feed_none}
 use Rattle.report.proofs.feed_at.Goals as goal
 

@@ -1,9 +1,7 @@
 use Prim.Native.Nat.{◌+◌, ◌-◌, ◌≤◌}
 use mathlib.Core.Path.{◌≡◌}
-use native.Mathlib.Omega.{arith}
 use lib.ListN.{length, drop}
 use Rattle.report.specs.Report.{feed_at}
-use Rattle.report.proofs.Inputs.{feed_here, feed_later, feed_none}
 use Rattle.report.proofs.feed_at.Given as goal
 
 abbrev pub invariant-loop-i : goal.invariant-loop-i

@@ -3,34 +3,32 @@
 use Prim.Native.Nat.{◌+◌, ◌*◌, ◌≤◌}
 use native.Mathlib.Omega.{arith}
 use lib.ListN.{length, length-drop}
-use borrow.Author.Rules.{rules}
 use Rattle.decimal.proofs.Pages.{tail}
 use Rattle.report.proofs.Listings.{matches_few, compares_few, listing_put}
 use Rattle.report.proofs.put_listing.Goals as goal
 
--- what the needs below are about: the matches are few, and with the totals they fit the page
-abbrev Fits : tie.After-put-matches → Type 0
-Fits c =
-    (c.put_matches-tally.result.matches ≤ 65536) × (c.put_matches-tally.result.matches * 9 + 19 ≤ length c.put_matches-tally.new.page)
-
 pub overflow_mul-at : goal.overflow_mul-at
 overflow_mul-at c =
-    let fits : (Fits c) = let a = c.args in let few = matches_few a.text.now a.needle.now c.requires.small c.requires.short in (omega (arith, c.put_matches-tally.ensures.matches, few), omega (arith, c.put_matches-tally.ensures.matches, few, c.requires.room, c.put_matches-tally.auto.1.1.0)) in
+    let fits : (c.put_matches-tally.result.matches ≤ 65536) × (c.put_matches-tally.result.matches * 9 + 19 ≤ length c.put_matches-tally.new.page) =
+    let a = c.args in let few = matches_few a.text.now a.needle.now c.requires.small c.requires.short in (omega (arith, c.put_matches-tally.ensures.matches, few), omega (arith, c.put_matches-tally.ensures.matches, few, c.requires.room, c.put_matches-tally.auto.page)) in
     omega (arith, fits.0)
 
 pub slice_bounds-put_totals-count : goal.slice_bounds-put_totals-count
 slice_bounds-put_totals-count c =
-    let fits : (Fits c) = let a = c.args in let few = matches_few a.text.now a.needle.now c.requires.small c.requires.short in (omega (arith, c.put_matches-tally.ensures.matches, few), omega (arith, c.put_matches-tally.ensures.matches, few, c.requires.room, c.put_matches-tally.auto.1.1.0)) in
+    let fits : (c.put_matches-tally.result.matches ≤ 65536) × (c.put_matches-tally.result.matches * 9 + 19 ≤ length c.put_matches-tally.new.page) =
+    let a = c.args in let few = matches_few a.text.now a.needle.now c.requires.small c.requires.short in (omega (arith, c.put_matches-tally.ensures.matches, few), omega (arith, c.put_matches-tally.ensures.matches, few, c.requires.room, c.put_matches-tally.auto.page)) in
     omega (arith, fits.1)
 
 pub slice_bounds-put_totals-start : goal.slice_bounds-put_totals-start
 slice_bounds-put_totals-start c =
-    let fits : (Fits c) = let a = c.args in let few = matches_few a.text.now a.needle.now c.requires.small c.requires.short in (omega (arith, c.put_matches-tally.ensures.matches, few), omega (arith, c.put_matches-tally.ensures.matches, few, c.requires.room, c.put_matches-tally.auto.1.1.0)) in
+    let fits : (c.put_matches-tally.result.matches ≤ 65536) × (c.put_matches-tally.result.matches * 9 + 19 ≤ length c.put_matches-tally.new.page) =
+    let a = c.args in let few = matches_few a.text.now a.needle.now c.requires.small c.requires.short in (omega (arith, c.put_matches-tally.ensures.matches, few), omega (arith, c.put_matches-tally.ensures.matches, few, c.requires.room, c.put_matches-tally.auto.page)) in
     omega (arith, fits.1)
 
 pub put_totals-requires : goal.put_totals-requires
 put_totals-requires c =
-    let fits : (Fits c) = let a = c.args in let few = matches_few a.text.now a.needle.now c.requires.small c.requires.short in (omega (arith, c.put_matches-tally.ensures.matches, few), omega (arith, c.put_matches-tally.ensures.matches, few, c.requires.room, c.put_matches-tally.auto.1.1.0)) in
+    let fits : (c.put_matches-tally.result.matches ≤ 65536) × (c.put_matches-tally.result.matches * 9 + 19 ≤ length c.put_matches-tally.new.page) =
+    let a = c.args in let few = matches_few a.text.now a.needle.now c.requires.small c.requires.short in (omega (arith, c.put_matches-tally.ensures.matches, few), omega (arith, c.put_matches-tally.ensures.matches, few, c.requires.room, c.put_matches-tally.auto.page)) in
     let t = c.put_matches-tally.result in (
       omega (arith, fits.0),
       omega (arith, c.put_matches-tally.ensures.compares, compares_few c.args.text.now c.args.needle.now c.requires.small c.requires.short),
@@ -39,7 +37,8 @@ put_totals-requires c =
 
 pub overflow_add-result : goal.overflow_add-result
 overflow_add-result c =
-    let fits : (Fits c) = let a = c.args in let few = matches_few a.text.now a.needle.now c.requires.small c.requires.short in (omega (arith, c.put_matches-tally.ensures.matches, few), omega (arith, c.put_matches-tally.ensures.matches, few, c.requires.room, c.put_matches-tally.auto.1.1.0)) in
+    let fits : (c.put_matches-tally.result.matches ≤ 65536) × (c.put_matches-tally.result.matches * 9 + 19 ≤ length c.put_matches-tally.new.page) =
+    let a = c.args in let few = matches_few a.text.now a.needle.now c.requires.small c.requires.short in (omega (arith, c.put_matches-tally.ensures.matches, few), omega (arith, c.put_matches-tally.ensures.matches, few, c.requires.room, c.put_matches-tally.auto.page)) in
     omega (arith, fits.0)
 
 pub returns : goal.returns

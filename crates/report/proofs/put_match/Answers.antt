@@ -1,10 +1,7 @@
 -- `report::put_match` meets its contract: the writer of a line has the part of the page from its
 -- own byte on. Assumes nothing.
-use native.Mathlib.Omega.{arith}
 use mathlib.Core.Path.{sym, ap, ◌∙◌}
-use lib.ListN.{length-drop}
-use borrow.Author.Rules.{rules}
-use Rattle.decimal.proofs.Pages.{tail, part_put}
+use Rattle.decimal.proofs.Pages.{part_put}
 use Rattle.search.specs.declared.Next.{Next}
 use Rattle.report.specs.Report.{number_line}
 use Rattle.report.specs.Writers.{with_match}
@@ -13,6 +10,5 @@ use Rattle.report.proofs.put_match.Goals as goal
 pub returns-in-Match : goal.returns-in-Match
 returns-in-Match c =
     let a = c.args in
-    let n = c.next.given in
-    part_put (number_line n.0.0) a.page.now c.put_number.new.page a.at 9 c.put_number.ensures
-    ∙ sym (ap (λ (x : Next). with_match x a.at a.page.now) n.1)
+    part_put (number_line c.in-Match.position) a.page.now c.put_number.new.page a.at 9 c.put_number.ensures
+    ∙ sym (ap (λ (x : Next). with_match x a.at a.page.now) c.in-Match.is)

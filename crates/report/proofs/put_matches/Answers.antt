@@ -39,25 +39,26 @@ after-tally-requires c =
     let few : (c.loop-tally.tally.matches ≤ 65536) = omega (arith, called.0, positions_few c.args.text.now c.args.needle.now) in
     omega (arith, few)
 
-abbrev Turn : (c : tie.After-after invariant-loop decreases-loop) → Type 0
-Turn c =
-    let a = c.args in
-    Turned a.text.now a.needle.now c.requires.small c.requires.short c.loop-tally.tally a.page.now c.after-tally.result c.put_match.new.page
-
 pub loop-tally-smaller : goal.loop-tally-smaller
 loop-tally-smaller c =
     let called : (Called c.args.text.now c.args.needle.now true c.loop-tally.tally.matches c.loop-tally.tally.cursor) = let a = c.args in let t = c.loop-tally.tally in subst (λ (b : Bool). Called a.text.now a.needle.now b t.matches t.cursor) c.loop-tally-test.true c.loop-tally.invariant.0 in
-    let turn : (Turn c) = let a = c.args in let next = c.next_in_bytes-next in turned a.text.now a.needle.now c.requires.small c.requires.short c.loop-tally.tally a.page.now next.result c.loop-tally.page c.put_match.new.page c.after-tally.result called c.loop-tally.invariant.2 next.ensures c.put_match.ensures c.after-tally.ensures in
+    let next = c.next_in_bytes-next in
+    let turn : Turned c.args.text.now c.args.needle.now c.requires.small c.requires.short c.loop-tally.tally c.args.page.now c.after-tally.result c.put_match.new.page =
+    let a = c.args in
+    turned a.text.now a.needle.now c.requires.small c.requires.short c.loop-tally.tally a.page.now next.result c.loop-tally.page c.put_match.new.page c.after-tally.result called c.loop-tally.invariant.2 next.ensures c.put_match.ensures c.after-tally.ensures in
     let a = c.args in
     let after = c.after-tally.result in
     let t = c.loop-tally.tally in
-    subst (λ (b : Bool). calls_left a.text.now a.needle.now after.more after.matches < calls_left a.text.now a.needle.now b t.matches) (sym c.loop-tally-test.taken) turn.2
+    subst (λ (b : Bool). calls_left a.text.now a.needle.now after.more after.matches < calls_left a.text.now a.needle.now b t.matches) (sym c.loop-tally-test.true) turn.2
 
 pub loop-tally-preserved : goal.loop-tally-preserved
 loop-tally-preserved c =
     let called : (Called c.args.text.now c.args.needle.now true c.loop-tally.tally.matches c.loop-tally.tally.cursor) = let a = c.args in let t = c.loop-tally.tally in subst (λ (b : Bool). Called a.text.now a.needle.now b t.matches t.cursor) c.loop-tally-test.true c.loop-tally.invariant.0 in
-    let turn : (Turn c) = let a = c.args in let next = c.next_in_bytes-next in turned a.text.now a.needle.now c.requires.small c.requires.short c.loop-tally.tally a.page.now next.result c.loop-tally.page c.put_match.new.page c.after-tally.result called c.loop-tally.invariant.2 next.ensures c.put_match.ensures c.after-tally.ensures in
-    (turn.0, c.put_match.auto.1.1.0 ∙ c.loop-tally.invariant.1, turn.1)
+    let next = c.next_in_bytes-next in
+    let turn : Turned c.args.text.now c.args.needle.now c.requires.small c.requires.short c.loop-tally.tally c.args.page.now c.after-tally.result c.put_match.new.page =
+    let a = c.args in
+    turned a.text.now a.needle.now c.requires.small c.requires.short c.loop-tally.tally a.page.now next.result c.loop-tally.page c.put_match.new.page c.after-tally.result called c.loop-tally.invariant.2 next.ensures c.put_match.ensures c.after-tally.ensures in
+    (turn.0, c.put_match.auto.page ∙ c.loop-tally.invariant.1, turn.1)
 
 pub returns : goal.returns
 returns c =

@@ -1,11 +1,6 @@
-use Prim.Native.Nat.{◌≤◌, ◌<◌}
-use mathlib.Core.Path.{◌≡◌, refl, sym, subst, ◌∙◌}
-use mathlib.Core.Bool.{Bool, true}
-use native.Mathlib.Omega.{arith}
+use mathlib.Core.Path.{◌≡◌}
 use lib.ListN.{length}
-use Rattle.report.specs.declared.Tally.{Tally}
-use Rattle.search.proofs.Callers.{positions_few}
-use Rattle.report.proofs.Turns.{Called, calls_left, HasLines, no_lines, next_small, Turned, turned, found_all}
+use Rattle.report.proofs.Turns.{Called, calls_left, HasLines}
 use Rattle.report.proofs.put_matches.Given as goal
 
 abbrev pub invariant-loop-tally : goal.invariant-loop-tally

@@ -1,12 +1,6 @@
 -- `report::put_totals` meets its contract: both numbers fit their columns, the second is written
 -- into the part of the page after the first, and the line feed is stored after both. Assumes
 -- nothing.
-use mathlib.Core.Path.{ap, ◌∙◌}
-use borrow.Author.Rules.{rules}
-use lib.ListN.{length}
-use Rattle.report.specs.Report.{totals_line}
-use Rattle.report.proofs.Lines.{length_totals}
-use Rattle.decimal.proofs.Pages.{length_kept}
 use Rattle.report.proofs.Pages.{totals_put}
 use Rattle.report.proofs.put_totals.Goals as goal
 
@@ -16,6 +10,3 @@ returns c =
     totals_put a.matches a.compares a.page.now c.right_justified.new.buffer
     c.right_justified.ensures.buffer c.requires.0 c.requires.1 c.requires.2
     c.right_justified-2.new.buffer c.right_justified-2.ensures.buffer
-
-pub returns : goal.returns
-returns c = stored c

@@ -5,19 +5,12 @@ use mathlib.Core.Path.{◌≡◌, refl, sym, ◌∙◌}
 use mathlib.Core.Logic.{by_cases}
 use native.Mathlib.Decide.{ℕ_discrete}
 use native.Mathlib.Omega.{arith}
-use lib.ListN.{length, length-drop}
+use lib.ListN.{length}
 use lib.Seq.{length-take-le}
-use borrow.Author.Rules.{rules}
-use Rattle.decimal.proofs.Pages.{tail}
 use Rattle.report.specs.Report.{feed_at}
 use Rattle.report.proofs.Inputs.{feed_within, too_long, no_feed, long_needle, no_refusal}
 use Rattle.report.proofs.Listings.{refused_so, listed_so}
--- ---- refused
--- ---- an input that is accepted
 use Rattle.report.proofs.report.Goals as goal
-
-some-feed : (c : tie.Else2) → feed_at c.args.input.now ≡ length c.args.input.now → ⊥
-some-feed c e = c.if-at-n.false (feed c ∙ e)
 
 pub returns-then-n-gt-LONGEST_INPUT : goal.returns-then-n-gt-LONGEST_INPUT
 returns-then-n-gt-LONGEST_INPUT c =
@@ -33,46 +26,35 @@ returns-then-at-n c =
 pub returns-then-at-gt-LONGEST_NEEDLE : goal.returns-then-at-gt-LONGEST_NEEDLE
 returns-then-at-gt-LONGEST_NEEDLE c =
     let feed : (c.feed_at-at.result ≡ feed_at c.args.input.now) = c.feed_at-at.ensures in
+    let some_feed : feed_at c.args.input.now ≡ length c.args.input.now → ⊥ = λ e. c.if-at-n.false (feed ∙ e) in
     let a = c.args in
-    refused_so a.input.now a.page.now 2 c.refused-then-at-gt-LONGEST_NEEDLE.result (long_needle a.input.now (omega arith) (some-feed c) (omega (arith, feed))) c.refused-then-at-gt-LONGEST_NEEDLE.ensures
+    refused_so a.input.now a.page.now 2 c.refused-then-at-gt-LONGEST_NEEDLE.result (long_needle a.input.now (omega arith) some_feed (omega (arith, feed))) c.refused-then-at-gt-LONGEST_NEEDLE.ensures
 
 pub slice_bounds-put_listing-end-2 : goal.slice_bounds-put_listing-end-2
 slice_bounds-put_listing-end-2 c =
     let feed : (c.feed_at-at.result ≡ feed_at c.args.input.now) = c.feed_at-at.ensures in
-    let within : (c.feed_at-at.result + 1 ≤ length c.args.input.now) = let input = c.args.input.now in by_cases (ℕ_discrete (feed_at input) (length input)) (λ e. absurd (some-feed c e)) (λ n. omega (arith, feed, feed_within input)) in
+    let some_feed : feed_at c.args.input.now ≡ length c.args.input.now → ⊥ = λ e. c.if-at-n.false (feed ∙ e) in
+    let within : (c.feed_at-at.result + 1 ≤ length c.args.input.now) = let input = c.args.input.now in by_cases (ℕ_discrete (feed_at input) (length input)) (λ e. absurd (some_feed e)) (λ n. omega (arith, feed, feed_within input)) in
     sym (length-take-le c.feed_at-at.result c.args.input.now (omega (arith, within)))
 
 pub returns : goal.returns
 returns c =
     let feed : (c.feed_at-at.result ≡ feed_at c.args.input.now) = c.feed_at-at.ensures in
+    let some_feed : feed_at c.args.input.now ≡ length c.args.input.now → ⊥ = λ e. c.if-at-n.false (feed ∙ e) in
     let a = c.args in
     listed_so a.input.now a.page.now c.put_listing.new.page c.feed_at-at.result (record { refusal = 0; written = c.put_listing.result }) feed
-    (no_refusal a.input.now (omega arith) (some-feed c) (omega (arith, feed))) refl c.put_listing.ensures
+    (no_refusal a.input.now (omega arith) some_feed (omega (arith, feed))) refl c.put_listing.ensures
 
-{- pub report-spec : {M : Type 1} → statement M
-report-spec =
-    tie.close
-    (tie.spec
-    (λ c κs. search rules)
-    returns
-    (λ c κs. search rules)
-    (λ c κs. search rules)
-    returns-2
-    (λ c κs. search rules)
-    returns-3
-    (λ c. search rules)
-    (λ c. within c)
-    (λ c. within c)
-    (λ c. search rules)
-    slice-aggregate-put-listing
-    put-listing-requires
-    returns-4)
- -}
-
--- OPEN
 pub slice_bounds-put_listing-count : goal.slice_bounds-put_listing-count
-slice_bounds-put_listing-count c = ?
+slice_bounds-put_listing-count c =
+    let feed : (c.feed_at-at.result ≡ feed_at c.args.input.now) = c.feed_at-at.ensures in
+    let some_feed : feed_at c.args.input.now ≡ length c.args.input.now → ⊥ = λ e. c.if-at-n.false (feed ∙ e) in
+    let within : (c.feed_at-at.result + 1 ≤ length c.args.input.now) = let input = c.args.input.now in by_cases (ℕ_discrete (feed_at input) (length input)) (λ e. absurd (some_feed e)) (λ n. omega (arith, feed, feed_within input)) in
+    within
 
--- OPEN
 pub slice_bounds-put_listing-start : goal.slice_bounds-put_listing-start
-slice_bounds-put_listing-start c = ?
+slice_bounds-put_listing-start c =
+    let feed : (c.feed_at-at.result ≡ feed_at c.args.input.now) = c.feed_at-at.ensures in
+    let some_feed : feed_at c.args.input.now ≡ length c.args.input.now → ⊥ = λ e. c.if-at-n.false (feed ∙ e) in
+    let within : (c.feed_at-at.result + 1 ≤ length c.args.input.now) = let input = c.args.input.now in by_cases (ℕ_discrete (feed_at input) (length input)) (λ e. absurd (some_feed e)) (λ n. omega (arith, feed, feed_within input)) in
+    within
