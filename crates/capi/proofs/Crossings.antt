@@ -21,7 +21,7 @@ use Rattle.search.specs.declared.End.TheVariants.{Full, Absent as EndAbsent, Sto
 use Rattle.search.specs.declared.Filled.{Filled}
 use Rattle.search.specs.Fills.{Fill, FillAnswered, FillSaid, fill_said, said_at, stopped, stopped_after}
 use Rattle.orders.specs.declared.OrderAnswer.{OrderAnswer}
-use Rattle.orders.specs.Orders.{is_second, order, order_answer, order_refusal}
+use Rattle.orders.specs.Orders.{is_second, order_answer, order_refusal}
 use Rattle.entries.specs.declared.Entry.{Entry}
 use Rattle.layout.specs.Layout.{row_of}
 use Rattle.schedule.specs.declared.DayAnswer.{DayAnswer}

@@ -8,6 +8,8 @@
 // Operands and masks are sixteen bytes behind a pointer, texts a pointer and a length, the entries
 // of a day forty bytes each behind a pointer, and their count. What crosses is defined in
 // specs/Crossing.antt. This file has what several calls share.
+#![tactic(auto)]
+
 mod columns;
 mod day;
 mod instructions;

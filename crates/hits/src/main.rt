@@ -3,9 +3,11 @@
 //
 // The bytes that are printed are defined in the crate `report` and proved there. This program
 // reads, calls it, and hands the bytes to the system.
+#![tactic(auto)]
+
 ghost use Rattle.hits.specs.Reads.{Within};
 
-use libc::{STDIN_FILENO, STDOUT_FILENO};
+use std::io::{Read, Stdin, Stdout, Write};
 
 // One byte more than the longest input: a longer one is seen to be too long, and need not be read
 // to its end.
@@ -19,23 +21,22 @@ enum Got {
 }
 
 // Reads once: how many bytes came, 0 where the input has ended.
-fn read_part(part: &mut [u8]) -> Got
+fn read_part(input: &mut Stdin, part: &mut [u8]) -> Got
     ensures { Within result part.new }
 {
-    let got = libc::read(STDIN_FILENO, part);
-    if got < 0 {
-        return Got::Failed;
+    match input.read(part) {
+        Ok(n) => Got::Bytes(n),
+        Err(_) => Got::Failed,
     }
-    Got::Bytes(io::count(got, part))
 }
 
 // Reads until the input ends or the buffer is full.
-fn read_input(buffer: &mut [u8]) -> Got
+fn read_input(input: &mut Stdin, buffer: &mut [u8]) -> Got
     ensures { Within result buffer.new }
 {
     let mut n = 0;
     while n < buffer.len() {
-        let Got::Bytes(more) = read_part(&mut buffer[n..]) else {
+        let Got::Bytes(more) = read_part(input, &mut buffer[n..]) else {
             return Got::Failed;
         };
         if more == 0 {
@@ -47,10 +48,12 @@ fn read_input(buffer: &mut [u8]) -> Got
 }
 
 // Writes all of it, in one call of the system where that takes all. It stops at a write that fails.
-fn write_output(bytes: &[u8]) {
+fn write_output(output: &mut Stdout, bytes: &[u8]) {
     let mut n = 0;
     while n < bytes.len() {
-        let put = io::count(libc::write(STDOUT_FILENO, &bytes[n..]), &bytes[n..]);
+        let Ok(put) = output.write(&bytes[n..]) else {
+            return;
+        };
         if put == 0 {
             return;
         }
@@ -59,23 +62,23 @@ fn write_output(bytes: &[u8]) {
 }
 
 // Writes what the program prints for an input: its lines, or the one line of its refusal.
-fn answer(input: &[u8]) {
+fn answer(output: &mut Stdout, input: &[u8]) {
     let mut page = [0u8; report::LONGEST_REPORT];
     let told = report::report(input, &mut page);
     if told.refusal > 0 {
         let line = report::refusal_line(told.refusal);
-        write_output(&line);
+        write_output(output, &line);
         return;
     }
-    write_output(&page[..told.written]);
+    write_output(output, &page[..told.written]);
 }
 
 // A failed read ends the program with nothing written.
-fn main() {
+fn main(rt: HostRuntime) {
     let mut buffer = [0u8; ROOM];
-    let got = read_input(&mut buffer);
+    let got = read_input(&mut rt.stdin(), &mut buffer);
     match got {
-        Got::Bytes(n) => answer(&buffer[..n]),
+        Got::Bytes(n) => answer(&mut rt.stdout(), &buffer[..n]),
         Got::Failed => {}
     }
 }

@@ -6,6 +6,9 @@
 // that has the instructions made it, the explicit ones with lengths of 64 bits, by
 // tests/vectors/silicon.c, which draws the same blocks and folds the answers in the same order.
 // What is changed here is changed there.
+#![tactic(auto)]
+
+use std::io;
 
 // Where the generator and every digest start. Any number but 0 would do.
 const SEED: u64 = 0x9e3779b97f4a7c15;
@@ -242,21 +245,19 @@ fn digest_of(call: Call, control: u8) -> u64 {
     digest
 }
 
-// Writes the lines of a call, one for each control. `name` is the call's name and a space.
-fn print_call(name: &[u8], call: Call) {
+// Writes the lines of a call, one for each control.
+fn print_call(rt: &impl Print, name: &str, call: Call) -> io::Result<()> {
     for control in 0..128 {
-        io::write_all(1, name);
-        io::print_hex(1, wide(control), 2);
-        io::write_all(1, b" ");
-        io::print_hex(1, digest_of(call, control), 16);
-        io::write_all(1, b"\n");
+        let digest = digest_of(call, control);
+        println!(rt; "{name} {control:02x} {digest:016x}")?;
     }
+    Ok(())
 }
 
-// Writes the lines of the four calls.
-fn main() {
-    print_call(b"pcmpestri ", Call::Pcmpestri);
-    print_call(b"pcmpestrm ", Call::Pcmpestrm);
-    print_call(b"pcmpistri ", Call::Pcmpistri);
-    print_call(b"pcmpistrm ", Call::Pcmpistrm);
+// Writes the lines of the four calls. A write that fails ends the program.
+fn main(rt: HostRuntime) -> io::Result<()> {
+    print_call(&rt, "pcmpestri", Call::Pcmpestri)?;
+    print_call(&rt, "pcmpestrm", Call::Pcmpestrm)?;
+    print_call(&rt, "pcmpistri", Call::Pcmpistri)?;
+    print_call(&rt, "pcmpistrm", Call::Pcmpistrm)
 }
