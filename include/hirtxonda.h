@@ -3,7 +3,7 @@
  * search over it, leading runs, the order of two texts, the running order of a day and its page for
  * the wall, and decimal columns.
  *
- * Link with target/staticlib/libcapi.a, which `rt staticlib capi` proves and builds. The library
+ * Link with crates/capi/out/libcapi.a, which `rt lib` in crates/capi proves and builds. The library
  * needs memcpy and memset and nothing else. It has no state, takes no memory but the stack, and may
  * be called from several threads at once.
  *

@@ -1,5 +1,5 @@
 //! Links the proved library, `libcapi.a`, from the folder in `HIRTXONDA_LIB`, else from
-//! `../target/staticlib`.
+//! `../crates/capi/out`.
 
 use std::env;
 use std::path::PathBuf;
@@ -8,7 +8,7 @@ fn main() {
     let here = PathBuf::from(env::var_os("CARGO_MANIFEST_DIR").expect("cargo sets it"));
     let folder = match env::var_os("HIRTXONDA_LIB") {
         Some(folder) => here.join(folder),
-        None => here.join("../target/staticlib"),
+        None => here.join("../crates/capi/out"),
     };
     let archive = folder.join("libcapi.a");
 
@@ -18,6 +18,6 @@ fn main() {
         println!("cargo::rustc-link-search=native={}", folder.display());
         println!("cargo::rustc-link-lib=static=capi");
     } else {
-        println!("cargo::error={} is missing: run `rt staticlib capi` in the repository's root", archive.display());
+        println!("cargo::error={} is missing: run `rt lib` in crates/capi", archive.display());
     }
 }
