@@ -26,7 +26,7 @@ use Rattle.entries.specs.declared.Entry.{Entry}
 use Rattle.layout.specs.Layout.{row_of}
 use Rattle.schedule.specs.declared.DayAnswer.{DayAnswer}
 use Rattle.schedule.specs.Days.{day_answer}
-use Rattle.schedule.proofs.Answers.{many-refused}
+use Rattle.schedule.proofs.Answers.{many_refused}
 use Rattle.report.specs.declared.ReportAnswer.{ReportAnswer}
 use Rattle.report.specs.Report.{lines_of, refusal_of, Reported}
 use Rattle.capi.specs.Crossing.{count_after, DayGiven, eflags, FilledGiven, FillGiven, fill_cursor_after, fill_status, IndexGiven, LesserGiven, MaskGiven, NextGiven, NumberGiven, numbers_of, OrderGiven, ReportGiven, unless_refused}
@@ -146,7 +146,7 @@ day_kept a rows count ne =
 -- more than 200 entries, whatever they are
 pub too_many_kept : (es : List Entry) (n : ℕ) (rows : List (List ℕ)) (count : ℕ) → 200 < n → DayGiven (day_answer es n) rows count 32 rows count
 too_many_kept es n rows count h =
-    let e : (day_answer es n).refusal ≡ 32 = many-refused es n h in
+    let e : (day_answer es n).refusal ≡ 32 = many_refused es n h in
     subst (λ (k : ℕ). DayGiven (day_answer es n) rows count k rows count) e (day_kept (day_answer es n) rows count (λ z. omega arith))
 
 -- ---- the report

@@ -20,35 +20,35 @@ use Rattle.schedule.specs.Places.{entries_at}
 module _ (es : List Entry) (n : ℕ) where
   -- ---- the numbers
 
-  pub refused-by-form : 0 < form_refusal es n → day_refusal es n ≡ form_refusal es n
+  pub refused_by_form : 0 < form_refusal es n → day_refusal es n ≡ form_refusal es n
   unfolding day_refusal
-  refused-by-form h = rw (ne_eqb (form_refusal es n) 0 (λ q. omega arith))
+  refused_by_form h = rw (ne_eqb (form_refusal es n) 0 (λ q. omega arith))
 
-  pub refused-twice : form_refusal es n ≡ 0 → number_twice es n ≡ true → day_refusal es n ≡ 34
+  pub refused_twice : form_refusal es n ≡ 0 → number_twice es n ≡ true → day_refusal es n ≡ 34
   unfolding day_refusal
-  refused-twice h t = rw (eq-eqb (form_refusal es n) 0 h, t)
+  refused_twice h t = rw (eq-eqb (form_refusal es n) 0 h, t)
 
-  pub not-refused : form_refusal es n ≡ 0 → number_twice es n ≡ false → day_refusal es n ≡ 0
+  pub not_refused : form_refusal es n ≡ 0 → number_twice es n ≡ false → day_refusal es n ≡ 0
   unfolding day_refusal
-  not-refused h t = rw (eq-eqb (form_refusal es n) 0 h, t)
+  not_refused h t = rw (eq-eqb (form_refusal es n) 0 h, t)
 
   -- accepted, each test was passed
-  pub accepted-form : day_refusal es n ≡ 0 → form_refusal es n ≡ 0
-  accepted-form z = by_order 0 (form_refusal es n) (λ h. sym (refused-by-form h) ∙ z) (λ h. omega arith)
+  pub accepted_form : day_refusal es n ≡ 0 → form_refusal es n ≡ 0
+  accepted_form z = by_order 0 (form_refusal es n) (λ h. sym (refused_by_form h) ∙ z) (λ h. omega arith)
 
-  pub accepted-once : day_refusal es n ≡ 0 → number_twice es n ≡ false
-  accepted-once z =
-      by_test (number_twice es n) (λ t. absurd (let e : day_refusal es n ≡ 34 = refused-twice (accepted-form z) t in omega arith)) (λ t. t)
+  pub accepted_once : day_refusal es n ≡ 0 → number_twice es n ≡ false
+  accepted_once z =
+      by_test (number_twice es n) (λ t. absurd (let e : day_refusal es n ≡ 34 = refused_twice (accepted_form z) t in omega arith)) (λ t. t)
 
-  pub accepted-count : day_refusal es n ≡ 0 → n ≤ 200
-  accepted-count z = form_count es n (accepted-form z)
+  pub accepted_count : day_refusal es n ≡ 0 → n ≤ 200
+  accepted_count z = form_count es n (accepted_form z)
 
   -- a count above 200, whatever the entries are
-  pub many-refused : 200 < n → (day_answer es n).refusal ≡ 32
+  pub many_refused : 200 < n → (day_answer es n).refusal ≡ 32
   unfolding day_answer
-  many-refused h =
+  many_refused h =
       let f : form_refusal es n ≡ 32 = too_many es n h in
-      refused-by-form (omega arith) ∙ f
+      refused_by_form (omega arith) ∙ f
 
   -- ---- the cleared entries
 
@@ -56,9 +56,9 @@ module _ (es : List Entry) (n : ℕ) where
   unfolding cleared_front
   front_long = length_tabulate n (λ i. cleared_entry (get_or es i no_entry))
 
-  pub front-of-filled : take n (filled (cleared_front es n)) ≡ cleared_front es n
+  pub front_of_filled : take n (filled (cleared_front es n)) ≡ cleared_front es n
   unfolding filled
-  front-of-filled = take_at (cleared_front es n) _ n front_long
+  front_of_filled = take_at (cleared_front es n) _ n front_long
 
   -- ---- the answers
 
@@ -66,10 +66,10 @@ module _ (es : List Entry) (n : ℕ) where
   unfolding day_answer
   answer_refused r d e h f = rw (ne_eqb (day_refusal es n) 0 (λ q. omega arith), e, f)
 
-  pub answer-accepted : (s clear : List Entry) (ks : List ℕ) → day_refusal es n ≡ 0 → clear ≡ filled (cleared_front es n)
+  pub answer_accepted : (s clear : List Entry) (ks : List ℕ) → day_refusal es n ≡ 0 → clear ≡ filled (cleared_front es n)
       → entries_at clear ks ≡ inserted (take n clear) → s ≡ filled (entries_at clear ks)
       → ◌≡◌ {A = DayAnswer} (record { refusal = 0; day = record { entries = s; count = n } }) (day_answer es n)
   unfolding day_answer day_of
-  answer-accepted s clear ks z c p g =
-      let q : s ≡ filled (inserted (cleared_front es n)) = g ∙ ap filled (p ∙ ap inserted (ap (take n) c ∙ front-of-filled)) in
+  answer_accepted s clear ks z c p g =
+      let q : s ≡ filled (inserted (cleared_front es n)) = g ∙ ap filled (p ∙ ap inserted (ap (take n) c ∙ front_of_filled)) in
       rw (eq-eqb (day_refusal es n) 0 z, z, q)

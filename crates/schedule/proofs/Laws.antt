@@ -18,7 +18,7 @@ use Rattle.entries.proofs.Order.{clash, tied}
 use Rattle.entries.proofs.Tests.{any_at}
 use Rattle.schedule.specs.Days.{cleared_front, inserted, number_twice, day_of, day_answer}
 use Rattle.schedule.specs.Schedules.{Rearranged, Sorted, Accepted, IsDayOf, IsSchedule}
-use Rattle.schedule.proofs.Answers.{accepted-once, front_long}
+use Rattle.schedule.proofs.Answers.{accepted_once, front_long}
 use Rattle.schedule.proofs.Sorting.{Unlike, Apart, apart_from, apart_moved, apart_at, same_day, all_in_order, all_rearranged, in_order_at, empty, length_kept}
 
 none_each : (n : ℕ) (p : ℕ → Bool) → any_below n p ≡ false → (i : ℕ) → i < n → p i ≡ false
@@ -31,7 +31,7 @@ module _ (es : List Entry) (n : ℕ) (z : Accepted es n) where
   unfolding number_twice
   unlike i j h k =
       eqb-false (get_or es i no_entry).number (get_or es j no_entry).number
-      (none_each j (λ i. eqb (get_or es i no_entry).number (get_or es j no_entry).number) (none_each n _ (accepted-once es n z) j k) i h)
+      (none_each j (λ i. eqb (get_or es i no_entry).number (get_or es j no_entry).number) (none_each n _ (accepted_once es n z) j k) i h)
 
   number_at : (i : ℕ) → i < n → (get_or (cleared_front es n) i no_entry).number ≡ (get_or es i no_entry).number
   unfolding cleared_front cleared_entry

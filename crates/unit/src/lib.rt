@@ -2,6 +2,7 @@
 // (after the Intel SSE4 Programming Reference, section 5.3 and the four instruction pages), its
 // laws in proofs/. There is no function here: `stages` and `modes` compute it and `pcmpstr` has the
 // calls.
+#![tactic(auto)]
 
 // Refusal number 1: the control is above 127. Number 0 stands for an accepted call.
 pub const CONTROL_REFUSED: u32 = 1;

@@ -19,7 +19,7 @@ use Rattle.wall_page.specs.Pages.{time_of, printed_byte, name_column, printed_na
 use Rattle.wall_page.specs.Aligned.{Accepted, IsLine, Handed, IsPage}
 use Rattle.wall_page.proofs.Columns.{length_time}
 use Rattle.wall_page.proofs.Lines.{up_to_time, up_to_space, up_to_name, up_to_feed, length_printed}
-use Rattle.wall_page.proofs.Answers.{accepted-form, accepted-room, page-written}
+use Rattle.wall_page.proofs.Answers.{accepted_form, accepted_room, page_written}
 
 -- ---- fifty bytes
 
@@ -170,7 +170,7 @@ line_at (x ∷ l) rest f (suc r) h =
 
 module _ (es : List Entry) (n : ℕ) (b : List ℕ) (handed : Handed es) (z : page_refusal es n (length b) ≡ 0) where
   form : form_refusal es n ≡ 0
-  form = accepted-form es n (length b) z
+  form = accepted_form es n (length b) z
 
   within : n ≤ length es
   within = omega (arith, form_count es n form, handed.places)
@@ -195,10 +195,10 @@ module _ (es : List Entry) (n : ℕ) (b : List ℕ) (handed : Handed es) (z : pa
   is_lined =
       record {
         line = λ r h.
-            rw (page-written es n b z)
+            rw (page_written es n b z)
             (line_at (take n es) (drop (50 * n) b) each r (omega (arith, long)) ∙ ap line_of (get_or-take n es r no_entry h));
-        rest = rw (page-written es n b z) (drop_at (lines_of (take n es)) (drop (50 * n) b) (50 * n) all_long);
-        same_length = rw (page-written es n b z) (length_kept (lines_of (take n es)) b (50 * n) all_long (accepted-room es n (length b) z));
+        rest = rw (page_written es n b z) (drop_at (lines_of (take n es)) (drop (50 * n) b) (50 * n) all_long);
+        same_length = rw (page_written es n b z) (length_kept (lines_of (take n es)) b (50 * n) all_long (accepted_room es n (length b) z));
       }
 
 -- every page that is accepted

@@ -27,8 +27,8 @@ neither true b e = (e, cc)
 neither false b e = (refl, e)
 
 module _ (words : Bool) (n m : ℕ) where
-  sizes-good : sizes_refused words n m ≡ false → Sizes words n m
-  sizes-good e =
+  sizes_good : sizes_refused words n m ≡ false → Sizes words n m
+  sizes_good e =
       let abc = neither _ (ltb longest_needle m) e in
       let ab = neither _ (ltb longest_text n) abc.0 in
       let both = neither (ltb m (count words)) (ltb n m) ab.0 in record {
@@ -38,27 +38,27 @@ module _ (words : Bool) (n m : ℕ) where
         needle = ltb-false longest_needle m abc.1;
       }
 
-  good-sizes : Sizes words n m → sizes_refused words n m ≡ false
-  good-sizes s =
+  good_sizes : Sizes words n m → sizes_refused words n m ≡ false
+  good_sizes s =
       rw (le-ltb m (count words) s.block, le-ltb n m s.within, le-ltb longest_text n s.text, le-ltb longest_needle m s.needle) refl
 
   module _ (t l : ℕ) where
     -- ---- the number by its tests
 
-    pub by-sizes : (Sizes words n m → ⊥) → 36 ≡ case_refusal words n m t l
+    pub by_sizes : (Sizes words n m → ⊥) → 36 ≡ case_refusal words n m t l
     unfolding case_refusal
-    by-sizes bad = by_test (sizes_refused words n m) (λ e. rw e refl) (λ e. absurd (bad (sizes-good e)))
+    by_sizes bad = by_test (sizes_refused words n m) (λ e. rw e refl) (λ e. absurd (bad (sizes_good e)))
 
     pub by_lengths : Sizes words n m → ((t ≡ n) → (l ≡ m) → ⊥) → 37 ≡ case_refusal words n m t l
     unfolding case_refusal
     by_lengths s bad =
         by_test (eqb t n && eqb l m)
         (λ e. absurd (bad (eqb-true t n (and_left _ _ e)) (eqb-true l m (and_right (eqb t n) _ e))))
-        (λ e. rw (good-sizes s, e) refl)
+        (λ e. rw (good_sizes s, e) refl)
 
-    pub by-none : Sizes words n m → t ≡ n → l ≡ m → 0 ≡ case_refusal words n m t l
+    pub by_none : Sizes words n m → t ≡ n → l ≡ m → 0 ≡ case_refusal words n m t l
     unfolding case_refusal
-    by-none s e g = rw (good-sizes s, eq-eqb t n e, eq-eqb l m g) refl
+    by_none s e g = rw (good_sizes s, eq-eqb t n e, eq-eqb l m g) refl
 
     -- ---- and what it tells
 
@@ -69,7 +69,7 @@ module _ (words : Bool) (n m : ℕ) where
         by_test (sizes_refused words n m)
         (λ bad. let z : 36 ≡ 0 = rw bad at e in absurd (omega arith))
         (λ good. by_test (eqb t n && eqb l m)
-        (λ same. (sizes-good good, eqb-true t n (and_left _ _ same), eqb-true l m (and_right (eqb t n) _ same)))
+        (λ same. (sizes_good good, eqb-true t n (and_left _ _ same), eqb-true l m (and_right (eqb t n) _ same)))
         (λ other. let z : 37 ≡ 0 = rw (good, other) at e in absurd (omega arith)))
 
 -- ---- the calls
@@ -87,8 +87,8 @@ module _ (words : Bool) (n m : ℕ) (text needle : List ℕ) (r : ℕ) (is : r �
       }
 
   -- an accepted call has a place in each buffer for the last letter
-  pub some-places : r ≡ 0 → (0 < length text) × (0 < length needle)
-  some-places good =
+  pub some_places : r ≡ 0 → (0 < length text) × (0 < length needle)
+  some_places good =
       let a = accepted_is words n m (length text) (length needle) (sym is ∙ good) in
       let b = count_some words in
       (omega (arith, a.0.block, a.0.within, a.1), omega (arith, a.0.block, a.2))

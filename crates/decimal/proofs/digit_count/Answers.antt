@@ -1,5 +1,5 @@
--- The number has no more than `count` digits once it is below the next power, or once `count` is 20:
--- every number of 64 bits is below 10 ^ 20.
+-- The number has no more than `count` digits once it is below the next power, or once `count` is
+-- 20: every number of 64 bits is below 10 ^ 20.
 use Rattle.std.proofs.Common.{ℕ, ◌+◌, ◌*◌, ◌^◌, ◌≡◌, add-one, arith, refl}
 use Rattle.decimal.proofs.Digits.{some_digit, fits_width, fits_not}
 use native.Mathlib.Nat.{pow-suc}

@@ -1,5 +1,5 @@
--- Ten times `power` is 10 ^ count, and the number has at least `count` digits, since it is not below
--- the powers passed.
+-- Ten times `power` is 10 ^ count, and the number has at least `count` digits, since it is not
+-- below the powers passed.
 use Rattle.std.proofs.Common.{◌-◌, ◌≤◌, ◌≡◌, ◌*◌, ◌^◌, length}
 use Rattle.decimal.specs.Decimal.{digits}
 use Rattle.decimal.proofs.digit_count.Given as goal

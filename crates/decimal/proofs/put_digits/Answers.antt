@@ -1,5 +1,5 @@
--- Each store puts the last digit of `rest`, and the digits before it follow; the last store puts the
--- one that is left.
+-- Each store puts the last digit of `rest`, and the digits before it follow; the last store puts
+-- the one that is left.
 use Rattle.std.proofs.Common.{ℕ, ◌+◌, ◌-◌, ◌/◌, ◌≤◌, ◌<◌, ◌∙◌, length, ap, arith, length-append, length-set, set}
 use Rattle.decimal.specs.Decimal.{digits}
 use Rattle.decimal.proofs.Digits.{some_digit, digits_more}
