@@ -3,11 +3,11 @@
 
 usage: tools/respell.py        once, at the top, after port.py and before any edit by hand
 
-A name is the repository's own where a file of specs/ or proofs/ declares it: at the top of a file, as
-a field, a parameter or by `let`. Types, modules and constructors in camel case stay, and so does each
-name that a file takes from the library, that Rattle makes of the code, or that stands in src/.
-Where a lemma would then have its definition's name, it gets `_lem` after it. It prints each name that
-changed, and ends with status 1 where two names would still fall together.
+A name is the repository's own where a file of specs/ or proofs/ declares it: at the top of a
+file, as a field, a parameter or by `let`. Types, modules and constructors in camel case stay, and
+so does each name that a file takes from the library, that Rattle makes of the code, or that stands
+in src/. Where a lemma would then have its definition's name, it gets `_lem` after it. It prints
+each name that changed, and ends with status 1 where two names would still fall together.
 """
 import collections
 import glob
@@ -110,7 +110,7 @@ def fallen():
     return {to: olds for to, olds in new.items() if len(olds) > 1}
 
 
-# A lemma that falls together with a definition, whose old name is in camel case or which src/ names.
+# A lemma that falls together with a definition, whose old name is in camel case or in src/.
 named = set(TOKEN.findall("\n".join(m[0] for p in rt for m in re.finditer(r"^ghost use .*?;", texts[p], re.M | re.S))))
 for to, olds in fallen().items():
     defined = [old for old in olds if re.search(r"[a-z0-9][A-Z]", old) or old in named] or [to]
