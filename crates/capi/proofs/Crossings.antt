@@ -65,24 +65,24 @@ mask_kept a mask flags ne =
 
 pub match_written : (a : Next) (p : ℕ) (c : Cursor) (ns ns' : List ℕ) (old : ℕ) → a ≡ Match p c → ns' ≡ numbers_of c → NextGiven a ns old 0 ns' p
 match_written a p c ns ns' old e made =
-    subst (λ (n : Next). NextGiven n ns old 0 ns' p) (sym e) (record { status = refl; cursor_after_lem = made; position_after_lem = refl })
+    subst (λ (n : Next). NextGiven n ns old 0 ns' p) (sym e) (record { status = refl; new_cursor = made; new_position = refl })
 
 pub absent_written : (a : Next) (c : Cursor) (ns ns' : List ℕ) (old : ℕ) → a ≡ Absent c → ns' ≡ numbers_of c → NextGiven a ns old 256 ns' old
 absent_written a c ns ns' old e made =
-    subst (λ (n : Next). NextGiven n ns old 256 ns' old) (sym e) (record { status = refl; cursor_after_lem = made; position_after_lem = refl })
+    subst (λ (n : Next). NextGiven n ns old 256 ns' old) (sym e) (record { status = refl; new_cursor = made; new_position = refl })
 
 pub refused_kept : (a : Next) (number : ℕ) (c : Cursor) (ns : List ℕ) (old : ℕ) → a ≡ Refused number c → NextGiven a ns old number ns old
 refused_kept a number c ns old e =
-    subst (λ (n : Next). NextGiven n ns old number ns old) (sym e) (record { status = refl; cursor_after_lem = refl; position_after_lem = refl })
+    subst (λ (n : Next). NextGiven n ns old number ns old) (sym e) (record { status = refl; new_cursor = refl; new_position = refl })
 
 -- ---- the fill
 
 module _ (a : Filled) (ns : List ℕ) (old : ℕ) where
   pub full_written : (ns' : List ℕ) → a.end ≡ Full → ns' ≡ numbers_of a.cursor → FilledGiven a ns old 257 ns' a.count
-  full_written ns' e made = rw e (record { status = refl; cursor_after_lem = made; count_after_lem = refl })
+  full_written ns' e made = rw e (record { status = refl; new_cursor = made; new_count = refl })
 
   pub no_more_written : (ns' : List ℕ) → a.end ≡ EndAbsent → ns' ≡ numbers_of a.cursor → FilledGiven a ns old 256 ns' a.count
-  no_more_written ns' e made = rw e (record { status = refl; cursor_after_lem = made; count_after_lem = refl })
+  no_more_written ns' e made = rw e (record { status = refl; new_cursor = made; new_count = refl })
 
   some_found : (number k : ℕ) → 0 < k → stopped_after number k ≡ stopped number k
   some_found number zero h = absurd (omega arith)
@@ -93,13 +93,13 @@ module _ (a : Filled) (ns : List ℕ) (old : ℕ) where
   stopped_written number ns' e h made =
       let told : fill_said a ≡ stopped number a.count = ap (λ (x : End). said_at x a.count) e ∙ some_found number a.count h in record {
         status = sym (ap fill_status told);
-        cursor_after_lem = made ∙ sym (ap (λ (s : FillSaid). fill_cursor_after s a.cursor ns) told);
-        count_after_lem = sym (ap (λ (s : FillSaid). count_after s old) told);
+        new_cursor = made ∙ sym (ap (λ (s : FillSaid). fill_cursor_after s a.cursor ns) told);
+        new_count = sym (ap (λ (s : FillSaid). count_after s old) told);
       }
 
   -- a number before the first
   pub stopped_kept : (number : ℕ) → a.end ≡ Stopped number → a.count ≡ 0 → FilledGiven a ns old number ns old
-  stopped_kept number e z = rw (e, z) (record { status = refl; cursor_after_lem = refl; count_after_lem = refl })
+  stopped_kept number e z = rw (e, z) (record { status = refl; new_cursor = refl; new_count = refl })
 
 -- what the search answered, handed on
 pub fill_handed : (f : Fill) (a : Filled) (ns positions : List ℕ) (old r : ℕ) (ns' positions' : List ℕ) (new : ℕ)
@@ -137,11 +137,11 @@ lesser_kept a old ne = record { refusal = refl; which_after = kept a.refusal (co
 pub day_written : (a : DayAnswer) (rows rows' : List (List ℕ)) (count : ℕ) → a.refusal ≡ 0 → rows' ≡ map row_of a.day.entries
     → DayGiven a rows count a.refusal rows' a.day.count
 day_written a rows rows' count e made =
-    record { number = refl; day_after = made ∙ written a.refusal (map row_of a.day.entries) rows e; count_after_lem = written a.refusal a.day.count count e }
+    record { number = refl; day_after = made ∙ written a.refusal (map row_of a.day.entries) rows e; new_count = written a.refusal a.day.count count e }
 
 pub day_kept : (a : DayAnswer) (rows : List (List ℕ)) (count : ℕ) → (a.refusal ≡ 0 → ⊥) → DayGiven a rows count a.refusal rows count
 day_kept a rows count ne =
-    record { number = refl; day_after = kept a.refusal (map row_of a.day.entries) rows ne; count_after_lem = kept a.refusal a.day.count count ne }
+    record { number = refl; day_after = kept a.refusal (map row_of a.day.entries) rows ne; new_count = kept a.refusal a.day.count count ne }
 
 -- more than 200 entries, whatever they are
 pub too_many_kept : (es : List Entry) (n : ℕ) (rows : List (List ℕ)) (count : ℕ) → 200 < n → DayGiven (day_answer es n) rows count 32 rows count
@@ -155,7 +155,7 @@ too_many_kept es n rows count h =
 pub report_given : (input page page' : List ℕ) (t : ReportAnswer) (old r new : ℕ) → Reported input page page' t → NumberGiven t.refusal t.written old r new
     → ReportGiven input page old r page' new
 report_given input page page' t old r new told given =
-    record { written_after = number_as t.refusal (refusal_of input) t.written (length (lines_of input)) old r new told.refusal told.written given; page_after_lem = told.page }
+    record { written_after = number_as t.refusal (refusal_of input) t.written (length (lines_of input)) old r new told.refusal told.written given; new_page = told.page }
 
 -- Where the order is not refused, the second text is the smaller just where the order is above 0.
 second_by_order : (words signed : Bool) (x y : List ℕ) (old : ℕ) (t : Bool) → eqb (order_refusal (length x) (length y)) 0 ≡ t

@@ -10,8 +10,8 @@ use Rattle.search.specs.declared.Next.{Next}
 use Rattle.search.specs.Cursors.{cursor_at}
 use Rattle.search.specs.declared.Filled.{Filled}
 use Rattle.search.specs.Fills.{Fill, FillSaid, full, absent as no_more, stopped, refused as unfilled, answer_of, fill_said, written}
-use Rattle.search.specs.Calls.{Said, found, absent, refused, said, cursor_of as nextCursor}
-use Rattle.report.specs.Report.{lines_of, refusal_of as reportRefusal}
+use Rattle.search.specs.Calls.{Said, found, absent, refused, said, cursor_of as next_cursor}
+use Rattle.report.specs.Report.{lines_of, refusal_of as report_refusal}
 use Rattle.orders.specs.declared.OrderAnswer.{OrderAnswer}
 use Rattle.layout.specs.Layout.{row_of}
 use Rattle.schedule.specs.declared.DayAnswer.{DayAnswer}
@@ -83,8 +83,8 @@ position_after (refused number) old = old
 pub record NextGiven (a : Next) (cursor : List ℕ) (position r : ℕ) (cursor' : List ℕ)
     (position' : ℕ) : Type 0 where
   pub status : r ≡ status_of (said a)
-  pub cursor_after_lem : cursor' ≡ cursor_after (said a) (nextCursor a) cursor
-  pub position_after_lem : position' ≡ position_after (said a) position
+  pub new_cursor : cursor' ≡ cursor_after (said a) (next_cursor a) cursor
+  pub new_position : position' ≡ position_after (said a) position
 
 -- ---- the fill
 
@@ -113,8 +113,8 @@ count_after (unfilled number) old = old
 pub record FilledGiven (a : Filled) (cursor : List ℕ) (count r : ℕ) (cursor' : List ℕ)
     (count' : ℕ) : Type 0 where
   pub status : r ≡ fill_status (fill_said a)
-  pub cursor_after_lem : cursor' ≡ fill_cursor_after (fill_said a) a.cursor cursor
-  pub count_after_lem : count' ≡ count_after (fill_said a) count
+  pub new_cursor : cursor' ≡ fill_cursor_after (fill_said a) a.cursor cursor
+  pub new_count : count' ≡ count_after (fill_said a) count
 
 -- the fill, with the list of positions before and after it
 pub record FillGiven (f : Fill) (cursor positions : List ℕ) (count r : ℕ)
@@ -149,12 +149,12 @@ pub record DayGiven (a : DayAnswer) (rows : List (List ℕ)) (count r : ℕ) (ro
     (count' : ℕ) : Type 0 where
   pub number : r ≡ a.refusal
   pub day_after : rows' ≡ unless_refused a.refusal (map row_of a.day.entries) rows
-  pub count_after_lem : count' ≡ unless_refused a.refusal a.day.count count
+  pub new_count : count' ≡ unless_refused a.refusal a.day.count count
 
 -- ---- the report
 
 -- the report: its input, the page and the number that stood behind the pointer before the call;
 -- what it returns, the page and that number after it
 pub record ReportGiven (input page : List ℕ) (old r : ℕ) (page' : List ℕ) (new : ℕ) : Type 0 where
-  pub written_after : NumberGiven (reportRefusal input) (length (lines_of input)) old r new
-  pub page_after_lem : page' ≡ lines_of input ++ drop (length (lines_of input)) page
+  pub written_after : NumberGiven (report_refusal input) (length (lines_of input)) old r new
+  pub new_page : page' ≡ lines_of input ++ drop (length (lines_of input)) page

@@ -54,7 +54,7 @@ SF x₁ l₁ x₂ l₂ c = (PCMPESTRI (padded x₁) (pos l₁) (padded x₂) (po
 unfoldable pub OF : List ℕ → ℕ → List ℕ → ℕ → ℕ → Bool
 OF x₁ l₁ x₂ l₂ c = (PCMPESTRI (padded x₁) (pos l₁) (padded x₂) (pos l₂) c).flags.overflow
 
--- `ABC`, `ZZABZABCZZZZZZAB`, `SMITH`, `SMYTH`, `AZ` and `a_b`
+-- `ABC`, `ZZABZABCZZZZZZAB`, `SMITH`, `SMYTH`, `AZ` and `a-B`
 abbrev pub abc : List ℕ
 abc = 65 ∷ 66 ∷ 67 ∷ []
 
