@@ -87,7 +87,9 @@ impl Entry {
         self.length as usize > LONGEST_NAME
     }
 
-    // The entry with its name bytes past the length zero.
+    // The entry with its name bytes past the length zero. The hint is for the stack of a day:
+    // inlined, one more array of entries is kept (docs/PERFORMANCE.md, "Stack").
+    #[inline(never)]
     pub fn cleared(self) -> Entry
         ensures { result ≡ cleared_entry self }
     {

@@ -27,7 +27,8 @@ fn implicit_length(x: &[u8; 16]) -> usize
 }
 
 // Bit j: x2[j] is valid and equals a valid element of x1. It stops once every valid element of x2
-// has been found.
+// has been found. The hint is for the stack of the mask calls on aarch64 (docs/PERFORMANCE.md).
+#[inline(never)]
 fn equal_any(x1: &[u8; 16], l1: usize, x2: &[u8; 16], l2: usize) -> u32
     requires { (l1 ≤ 16) × (l2 ≤ 16) }
     ensures { result ≡ number_of 16 (any_of x1.now l1 x2.now l2) }

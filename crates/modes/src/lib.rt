@@ -48,7 +48,9 @@ pub fn explicit_usize(
     bytes::explicit_usize(operand1, length1, operand2, length2, k)
 }
 
-// What an implicit call compares.
+// What an implicit call compares. Without the hint it has a frame of its own, and the mask calls
+// take more stack than they are given (docs/PERFORMANCE.md, "Stack").
+#[inline(always)]
 pub fn implicit(operand1: [u8; 16], operand2: [u8; 16], k: Control) -> Compared
     ensures { result ≡ compared_of (implicit operand1 operand2 k) }
 {
