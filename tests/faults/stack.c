@@ -34,13 +34,13 @@
 /* The bytes of stack that each call takes at most, as stated in docs/PERFORMANCE.md, "Stack". */
 #if defined(__x86_64__)
 #define EXPLICIT_STACK 216u
-#define IMPLICIT_STACK 264u
+#define IMPLICIT_STACK 224u
 #define DAY_STACK 41272u
 #define PAGE_STACK 16088u
 #define RETURN_ADDRESS 8u
 #elif defined(__aarch64__)
 #define EXPLICIT_STACK 408u
-#define IMPLICIT_STACK 536u
+#define IMPLICIT_STACK 320u
 #define DAY_STACK 41392u
 #define PAGE_STACK 16112u
 #define RETURN_ADDRESS 0u
