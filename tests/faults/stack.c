@@ -39,7 +39,7 @@
 #define PAGE_STACK 16088u
 #define RETURN_ADDRESS 8u
 #elif defined(__aarch64__)
-#define EXPLICIT_STACK 408u
+#define EXPLICIT_STACK 376u
 #define IMPLICIT_STACK 320u
 #define DAY_STACK 41392u
 #define PAGE_STACK 16112u

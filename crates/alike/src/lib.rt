@@ -1,107 +1,67 @@
 // Compares of a whole block for equality: bit j of a result belongs to element j of a block of
 // sixteen bytes or eight words.
 //
-// Public calls: `alike_bytes` and `alike_words` compare two blocks, `same_bytes` and `same_words` a
-// block with one element. None asks anything of its arguments.
+// Public calls: `alike` compares two blocks, `same` a block with one element. Each asks that a
+// block has as many elements as an operand.
 #![tactic(auto)]
 
-ghost use Rattle.std.specs.Prelude.{◌≡◌, cond, ◌+◌, ◌*◌, ◌<◌, eqb, get_or};
+ghost use Rattle.std.specs.Prelude.{◌≡◌, ◌+◌, ◌*◌, ◌<◌, ◌≤◌, eqb, get_or};
 ghost use Rattle.bits.specs.Bits.{eight_bits, number_of};
 
-// A bit as a number.
-fn bit(t: bool) -> u16
-    ensures { (result ≡ cond t 1 0) × (result < 2) }
+use unit::Element;
+
+// Whether the elements at one place are equal.
+fn equal_at<T: Element, const N: usize>(x: &[T; N], y: &[T; N], at: usize) -> bool
+    requires { at < N }
+    ensures { result
+        ≡ eqb (get_or (T.numbers x.now) at 0) (get_or (T.numbers y.now) at 0) }
 {
-    if t { 1 } else { 0 }
+    x[at] == y[at]
 }
 
-// Four bits, lowest first. The sum is a tree, for speed (docs/PERFORMANCE.md).
-fn four(a: bool, b: bool, c: bool, d: bool) -> u16
-    ensures { (result ≡ cond a 1 0 + 2 * cond b 1 0 + 4 * (cond c 1 0 + 2 * cond d 1 0))
-        × (result < 16) }
-{
-    (bit(a) + bit(b) * 2) + (bit(c) + bit(d) * 2) * 4
-}
-
-// Eight bits of twice four, and sixteen of twice eight.
-fn eight(low: u16, high: u16) -> u16
-    requires { (low < 16) × (high < 16) }
-    ensures { (result ≡ low + 16 * high) × (result < 256) }
-{
-    low + high * 16
-}
-
-fn sixteen(low: u16, high: u16) -> u32
-    requires { (low < 256) × (high < 256) }
-    ensures { result ≡ low + 256 * high }
-{
-    (low + high * 256) as u32
-}
-
-// Bit j: x[j] is y[j], for the first eight bytes and for the others.
-fn alike_low(x: &[u8; 16], y: &[u8; 16]) -> u16
-    ensures { (result ≡ eight_bits (λ j. eqb (get_or x.now j 0) (get_or y.now j 0)))
-        × (result < 256) }
-{
-    eight(
-        four(x[0] == y[0], x[1] == y[1], x[2] == y[2], x[3] == y[3]),
-        four(x[4] == y[4], x[5] == y[5], x[6] == y[6], x[7] == y[7]),
-    )
-}
-
-fn alike_high(x: &[u8; 16], y: &[u8; 16]) -> u16
+// The bits above with those of eight places below them. It is one chain of uneven groups, for speed
+// (docs/PERFORMANCE.md).
+fn eight<T: Element, const N: usize>(above: u32, x: &[T; N], y: &[T; N], at: usize) -> u32
+    requires { (above < 256) × (at + 8 ≤ N) }
     ensures { (result
         ≡ eight_bits
-        (λ j. eqb (get_or x.now (8 + j) 0) (get_or y.now (8 + j) 0)))
-        × (result < 256) }
+        (λ j. eqb (get_or (T.numbers x.now) (at + j) 0) (get_or (T.numbers y.now) (at + j) 0))
+        + 256 * above)
+        × (result < 256 * above + 256) }
 {
-    eight(
-        four(x[8] == y[8], x[9] == y[9], x[10] == y[10], x[11] == y[11]),
-        four(
-            x[12] == y[12],
-            x[13] == y[13],
-            x[14] == y[14],
-            x[15] == y[15],
-        ),
-    )
+    let a = equal_at(x, y, at + 6) as u32;
+    let b = equal_at(x, y, at + 7) as u32;
+    let high = above * 4 + (a + b * 2);
+    let a = equal_at(x, y, at + 3) as u32;
+    let b = equal_at(x, y, at + 4) as u32;
+    let c = equal_at(x, y, at + 5) as u32;
+    let middle = high * 8 + (a + b * 2 + c * 4);
+    let a = equal_at(x, y, at) as u32;
+    let b = equal_at(x, y, at + 1) as u32;
+    let c = equal_at(x, y, at + 2) as u32;
+    middle * 8 + (a + b * 2 + c * 4)
 }
 
 // Bit j: x[j] is y[j].
-pub fn alike_bytes(x: &[u8; 16], y: &[u8; 16]) -> u32
+pub fn alike<T: Element, const N: usize>(x: &[T; N], y: &[T; N]) -> u32
+    requires { N ≡ T.COUNT }
     ensures { result
-        ≡ number_of 16 (λ j. eqb (get_or x.now j 0) (get_or y.now j 0)) }
+        ≡ number_of N
+        (λ j. eqb (get_or (T.numbers x.now) j 0) (get_or (T.numbers y.now) j 0)) }
 {
-    sixteen(alike_low(x, y), alike_high(x, y))
-}
-
-fn alike_eight(x: &[u16; 8], y: &[u16; 8]) -> u16
-    ensures { (result ≡ eight_bits (λ j. eqb (get_or x.now j 0) (get_or y.now j 0)))
-        × (result < 256) }
-{
-    eight(
-        four(x[0] == y[0], x[1] == y[1], x[2] == y[2], x[3] == y[3]),
-        four(x[4] == y[4], x[5] == y[5], x[6] == y[6], x[7] == y[7]),
-    )
-}
-
-pub fn alike_words(x: &[u16; 8], y: &[u16; 8]) -> u32
-    ensures { result
-        ≡ number_of 8 (λ j. eqb (get_or x.now j 0) (get_or y.now j 0)) }
-{
-    alike_eight(x, y) as u32
+    if N < 16 {
+        return eight(0, x, y, 0);
+    }
+    eight(eight(0, x, y, 8), x, y, 0)
 }
 
 // Bit j: x[j] is y.
-pub fn same_bytes(x: &[u8; 16], y: u8) -> u32
-    ensures { result ≡ number_of 16 (λ j. eqb (get_or x.now j 0) y) }
+pub fn same<T: Element, const N: usize>(x: &[T; N], y: T) -> u32
+    requires { N ≡ T.COUNT }
+    ensures { result
+        ≡ number_of N
+        (λ j. eqb (get_or (T.numbers x.now) j 0) (T.number y)) }
 {
-    let all = [y; 16];
-    alike_bytes(x, &all)
-}
-
-pub fn same_words(x: &[u16; 8], y: u16) -> u32
-    ensures { result ≡ number_of 8 (λ j. eqb (get_or x.now j 0) y) }
-{
-    let all = [y; 8];
-    alike_words(x, &all)
+    let all = [y; N];
+    alike(x, &all)
 }

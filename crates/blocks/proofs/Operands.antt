@@ -14,7 +14,7 @@ use Rattle.unit.specs.Operand.{in_bytes, in_words}
 use Rattle.bits.specs.Bits.{tabulate}
 use Rattle.bits.proofs.Below.{by_test, by_order}
 use Rattle.bits.proofs.Lists.{length_tabulate, get_or_tabulate, tabulate_same}
-use Rattle.blocks.specs.Blocks.{operand_byte, operand_of, stores}
+use Rattle.blocks.specs.Blocks.{operand_byte, operand_of, fill_length, stores}
 
 -- the first k bytes, and zero
 abbrev pub up_to : (ℕ → ℕ) → ℕ → ℕ → ℕ
@@ -63,13 +63,6 @@ module _ (f : ℕ → ℕ) where
 pub past_bytes : (x : List ℕ) (j : ℕ) → length x ≤ j → operand_byte in_bytes x j ≡ 0
 past_bytes x j h = get_or-eq_default x 0 h
 
--- zeros over which a part in bytes is written are its operand
-pub filled_zeros : (x a : List ℕ) → a ≡ stores (operand_byte in_bytes x) (min (length x) 16) (replicate 16 0) → a ≡ operand_of in_bytes x
-unfolding operand_of
-filled_zeros x a e =
-    let n = min (length x) 16 in
-    all_stored (operand_byte in_bytes x) a n (e ∙ stores_zeros (operand_byte in_bytes x) n (omega arith)) (λ j h g. past_bytes x j (omega arith))
-
 pub past_words : (x : List ℕ) (j : ℕ) → 2 * length x ≤ j → operand_byte in_words x j ≡ 0
 past_words x j h =
     rw (get_or-eq_default x 0 (half h)) (either (eqb (j % 2) 0))
@@ -92,3 +85,21 @@ pub high_byte : (x : List ℕ) (i : ℕ) → get_or x i 0 / 256 ≡ operand_byte
 high_byte x i =
     let half : (2 * i + 1) / 2 ≡ i = omega arith in
     rw (ne_eqb ((2 * i + 1) % 2) 0 (λ e. omega arith), half)
+
+-- the two bytes of a word more
+pub stores_more : (x a : List ℕ) (i l h : ℕ) → l ≡ get_or x i 0 % 256 → h ≡ get_or x i 0 / 256 → set (set (stores (operand_byte in_words x) (2 * i) a) (2 * i) l) (2 * i + 1) h ≡ stores (operand_byte in_words x) (2 * (i + 1)) a
+stores_more x a i l h p q =
+    let f = operand_byte in_words x in
+    let next : 2 * (i + 1) ≡ suc (suc (2 * i)) = omega arith in
+    let here : 2 * i + 1 ≡ suc (2 * i) = omega arith in
+    rw (next, p ∙ low_byte x i, q ∙ high_byte x i, here) refl
+
+-- zeros over which a part is written are its operand
+pub filled_zeros : (words : Bool) (x a : List ℕ) (n : ℕ) → n ≡ length x → a ≡ stores (operand_byte words x) (fill_length words n) (replicate 16 0) → a ≡ operand_of words x
+unfolding operand_of
+filled_zeros false x a n h e =
+    let k = min n 16 in
+    all_stored (operand_byte in_bytes x) a k (e ∙ stores_zeros (operand_byte in_bytes x) k (omega arith)) (λ j u v. past_bytes x j (omega arith))
+filled_zeros true x a n h e =
+    let k = 2 * min n 8 in
+    all_stored (operand_byte in_words x) a k (e ∙ stores_zeros (operand_byte in_words x) k (omega arith)) (λ j u v. past_words x j (omega arith))

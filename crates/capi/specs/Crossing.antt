@@ -1,7 +1,10 @@
 -- What crosses to C: a cursor as four numbers, the flags as one, an answer as a status and what is
 -- written through the caller's pointers. A refused call writes nothing.
-use Rattle.std.specs.Prelude.{ℕ, ◌+◌, ◌≡◌, Bool, cond, not, List, [], ◌∷◌, ◌++◌, map, eqb, ℤ, pos, get_or, length, drop}
-use Rattle.std.specs.Int.Signed.{lt_z}
+use Rattle.std.specs.Prelude.{ℕ, ◌+◌, ◌≡◌, Bool, cond, not, List, [], ◌∷◌, ◌++◌, map, eqb, ℤ, get_or, length, drop, Result, Ok, Err}
+use Rattle.std.specs.Result.{result_and}
+use Rattle.std.specs.declared.cmp.Ordering.{Ordering}
+use Rattle.refusals.specs.declared.Refusal.{Refusal}
+use Rattle.refusals.specs.Numbers.{number_of}
 use Rattle.unit.specs.declared.Flags.{Flags}
 use Rattle.unit.specs.declared.IndexAnswer.{IndexAnswer}
 use Rattle.unit.specs.declared.MaskAnswer.{MaskAnswer}
@@ -12,12 +15,32 @@ use Rattle.search.specs.declared.Filled.{Filled}
 use Rattle.search.specs.Fills.{Fill, FillSaid, full, absent as no_more, stopped, refused as unfilled, answer_of, fill_said, written}
 use Rattle.search.specs.Calls.{Said, found, absent, refused, said, cursor_of as next_cursor}
 use Rattle.report.specs.Report.{lines_of, refusal_of as report_refusal}
-use Rattle.orders.specs.declared.OrderAnswer.{OrderAnswer}
+use Rattle.orders.specs.Orders.{told}
 use Rattle.layout.specs.Layout.{row_of}
-use Rattle.schedule.specs.declared.DayAnswer.{DayAnswer}
+use Rattle.decimal.specs.Decimal.{refusal_of as column_refusal, written as column_written}
+use Rattle.entries.specs.declared.Entry.{Entry}
+use Rattle.wall_page.specs.Pages.{page_refusal, page_after}
+use Rattle.worst_case.specs.Cases.{case_refusal, buffer_after}
+use Rattle.schedule.specs.declared.Day.{Day}
 
--- what stands behind a pointer after a call with this refusal: 0 writes the new value, and any
--- other number leaves the old one
+-- what a call returns: 0, or the number that refuses it
+abbrev pub status : {A : Type 0} → Result A Refusal → ℕ
+status (Ok x) = 0
+status (Err r) = number_of r
+
+-- what stands behind a pointer after it: what is told of the answer, or what stood there
+abbrev pub after : {A B : Type 0} → (A → B) → Result A Refusal → B → B
+after f (Ok x) old = f x
+after f (Err r) old = old
+
+-- An answer that is handed over whole: what stood behind the pointer before the call; what it
+-- returns, and what stands there after it.
+pub record Given {A : Type 0} (a : Result A Refusal) (old : A) (r : ℕ) (new : A) : Type 0 where
+  pub number : r ≡ status a
+  pub told_after : new ≡ after (λ (x : A). x) a old
+
+-- what stands behind a pointer after a call of the unit with this refusal: 0 writes the new value,
+-- and any other number leaves the old one
 abbrev pub unless_refused : {A : Type 0} → ℕ → A → A → A
 unless_refused number new old = cond (eqb number 0) new old
 
@@ -124,32 +147,46 @@ pub record FillGiven (f : Fill) (cursor positions : List ℕ) (count r : ℕ)
 
 -- ---- runs and orders
 
--- a call that tells one number, as the length of a run or which text is the smaller: its refusal,
--- the number told, what stood there before; what it returns, what stands there after it
-pub record NumberGiven (number told old r new : ℕ) : Type 0 where
-  pub refusal : r ≡ number
-  pub told_after : new ≡ unless_refused number told old
+-- A call that tells one number, as the length of a run or which text is the smaller: what refuses
+-- it, the number told, what stood there before; what it returns, what stands there after it.
+abbrev pub NumberGiven : Result (Unit {0}) Refusal → ℕ → ℕ → ℕ → ℕ → Type 0
+NumberGiven accepted number old r new = Given (result_and accepted (Ok number)) old r new
 
--- an order, in the same way
-pub record OrderGiven (a : OrderAnswer) (old : ℤ) (r : ℕ) (new : ℤ) : Type 0 where
-  pub refusal : r ≡ a.refusal
-  pub order_after : new ≡ unless_refused a.refusal a.order old
-
--- Which text is the smaller, from their order: 0 the first, 1 the second. It is for a private
--- function; the public contracts name `is_second`.
-pub record LesserGiven (a : OrderAnswer) (old r new : ℕ) : Type 0 where
-  pub refusal : r ≡ a.refusal
-  pub which_after : new ≡ unless_refused a.refusal (cond (lt_z (pos 0) a.order) 1 0) old
+-- an order as -1, 0 or 1, in the same way
+pub record OrderGiven (a : Result Ordering Refusal) (old : ℤ) (r : ℕ) (new : ℤ) : Type 0 where
+  pub number : r ≡ status a
+  pub order_after : new ≡ after told a old
 
 -- ---- the day
 
 -- a day: the answer, the rows and the count before the call; what it returns, the rows and the
 -- count after it
-pub record DayGiven (a : DayAnswer) (rows : List (List ℕ)) (count r : ℕ) (rows' : List (List ℕ))
+pub record DayGiven (a : Result Day Refusal) (rows : List (List ℕ)) (count r : ℕ) (rows' : List (List ℕ))
     (count' : ℕ) : Type 0 where
-  pub number : r ≡ a.refusal
-  pub day_after : rows' ≡ unless_refused a.refusal (map row_of a.day.entries) rows
-  pub new_count : count' ≡ unless_refused a.refusal a.day.count count
+  pub number : r ≡ status a
+  pub day_after : rows' ≡ after (λ (d : Day). map row_of d.entries) a rows
+  pub new_count : count' ≡ after (λ (d : Day). d.count) a count
+
+-- ---- what is written into buffers
+
+-- A call that writes a buffer: the number, the buffer before the call; what it returns, and the
+-- buffer after it.
+pub record ColumnGiven (number width : ℕ) (buffer : List ℕ) (r : ℕ) (buffer' : List ℕ) : Type 0 where
+  pub status_is : r ≡ status (column_refusal number width (length buffer))
+  pub new_buffer : buffer' ≡ column_written number width buffer
+
+-- the page of n entries, in the same way
+pub record PageGiven (es : List Entry) (n : ℕ) (page : List ℕ) (r : ℕ) (page' : List ℕ) : Type 0 where
+  pub status_is : r ≡ status (page_refusal es n (length page))
+  pub new_page : page' ≡ page_after es n page
+
+-- the slowest search: the sizes, text and needle before the call; what it returns, text and needle
+-- after it
+pub record WorstGiven (words : Bool) (n m : ℕ) (text needle : List ℕ) (r : ℕ) (text' needle' : List ℕ)
+    : Type 0 where
+  pub status_is : r ≡ status (case_refusal words n m (length text) (length needle))
+  pub new_text : text' ≡ buffer_after (case_refusal words n m (length text) (length needle)) n text
+  pub new_needle : needle' ≡ buffer_after (case_refusal words n m (length text) (length needle)) m needle
 
 -- ---- the report
 

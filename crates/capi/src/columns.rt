@@ -1,17 +1,16 @@
 // The column writer, and what the program `hits` prints.
 ghost use Rattle.std.specs.Prelude.{◌≡◌};
-ghost use Rattle.decimal.specs.Decimal.{RightJustified};
 ghost use Rattle.report.specs.Report.{refusal_line};
-ghost use Rattle.capi.specs.Crossing.{ReportGiven};
+ghost use Rattle.capi.specs.Crossing.{ColumnGiven, ReportGiven};
 
-use crate::give_number;
+use crate::{give, status};
 
 // A number in decimal, right-justified in a width, at the front of a buffer.
 #[unsafe(no_mangle)]
 pub extern "C" fn hx_right_justified(number: u64, width: usize, buffer: &mut [u8]) -> u32
-    ensures { RightJustified number width buffer.old buffer.new result }
+    ensures { ColumnGiven number width buffer.old result buffer.new }
 {
-    decimal::right_justified(number, width, buffer)
+    status(decimal::right_justified(number, width, buffer))
 }
 
 // The lines that the program `hits` prints for an input, and how many bytes they are.
@@ -24,8 +23,7 @@ pub extern "C" fn hx_report(
     ensures { ReportGiven input.now page.old written.old result
         page.new written.new }
 {
-    let told = report::report(input, page);
-    give_number(told.refusal, told.written, written)
+    give(report::report(input, page), written)
 }
 
 // The line that the program prints for an input that is refused by this number.

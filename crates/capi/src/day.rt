@@ -4,24 +4,26 @@ ghost use Rattle.layout.specs.Layout.{entries_of};
 ghost use Rattle.schedule.specs.Days.{day_answer};
 ghost use Rattle.capi.specs.Crossing.{DayGiven};
 
-use schedule::DayAnswer;
+use refusals::Refusal;
+use schedule::Day;
 
 // Hands a day to the caller.
 fn give_day(
-    answer: DayAnswer,
+    answer: Result<Day, Refusal>,
     day: &mut [[u8; layout::ENTRY_BYTES]; entries::MOST_ENTRIES],
     count: &mut u64,
 ) -> u32
     ensures { DayGiven answer day.old count.old result day.new
         count.new }
 {
-    if answer.refusal == 0 {
-        let made = answer.day;
-        let entries = made.entries;
-        layout::write_entries(entries, day);
-        *count = made.count as u64;
+    match answer {
+        Ok(made) => {
+            layout::write_entries(made.entries, day);
+            *count = made.count as u64;
+            0
+        }
+        Err(refusal) => refusal.number(),
     }
-    answer.refusal
 }
 
 // The day of these entries, each in forty bytes. More than 200 are refused before one is read.
@@ -37,7 +39,7 @@ pub extern "C" fn hx_day_of_parts(
 {
     let n = entries.len();
     if n > entries::MOST_ENTRIES {
-        return entries::COUNT_REFUSED;
+        return Refusal::Count.number();
     }
     give_day(schedule::day_of(layout::entries_of(entries), n), day, count)
 }

@@ -20,6 +20,7 @@ const SIGN: u32 = 0x080;
 const OVERFLOW: u32 = 0x800;
 
 // The flags as one number.
+#[tactic(auto, unfolding(crate::specs::Crossing::eflags))]
 fn eflags(f: Flags) -> u32
     ensures { result ≡ eflags f }
 {

@@ -20,7 +20,9 @@ mod walk;
 mod worst;
 
 ghost use Rattle.std.specs.Prelude.{◌≡◌, cond, ◌≤◌};
-ghost use Rattle.capi.specs.Crossing.{NumberGiven, truth};
+ghost use Rattle.capi.specs.Crossing.{Given, status, truth};
+
+use refusals::Refusal;
 
 // A truth value from C: 0 is false, and any other number is true.
 fn truth(n: u32) -> bool
@@ -36,12 +38,25 @@ fn weighed(set: bool, weight: u32) -> u32
     if set { weight } else { 0 }
 }
 
-// Hands a number to the caller, unless this refusal's number keeps it back.
-fn give_number(refusal: u32, told: usize, number: &mut usize) -> u32
-    ensures { NumberGiven refusal told number.old result number.new }
+// What a call returns: 0, or the number that refuses it.
+fn status(answer: Result<(), Refusal>) -> u32
+    ensures { result ≡ status answer }
 {
-    if refusal == 0 {
-        *number = told;
+    match answer {
+        Ok(_) => 0,
+        Err(refusal) => refusal.number(),
     }
-    refusal
+}
+
+// Hands an answer to the caller: it is written where the call is accepted.
+fn give<T: Copy>(answer: Result<T, Refusal>, place: &mut T) -> u32
+    ensures { Given answer place.old result place.new }
+{
+    match answer {
+        Ok(told) => {
+            *place = told;
+            0
+        }
+        Err(refusal) => refusal.number(),
+    }
 }

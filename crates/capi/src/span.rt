@@ -5,8 +5,31 @@ ghost use Rattle.unit.specs.Operand.{in_bytes, in_words};
 ghost use Rattle.spans.specs.Spans.{bounds_refusal, range_span, set_refusal, set_span};
 ghost use Rattle.capi.specs.Crossing.{NumberGiven, truth};
 
-use crate::{give_number, truth};
-use spans::{bytes, words};
+use crate::{give, truth};
+use blocks::Letter;
+
+// Hands the length of a leading run to the caller.
+fn give_span<T: Letter>(text: &[T], set: &[T], span: &mut usize) -> u32
+    ensures { NumberGiven
+        (set_refusal T.words (length text.now) (length set.now))
+        (length (set_span T.words (T.numbers text.now) (T.numbers set.now))) span.old result
+        span.new }
+{
+    let part = spans::span(text, set);
+    give(spans::accept_span(text, set).map(|_| part.len()), span)
+}
+
+// The same of a run in ranges.
+fn give_range_span<T: Letter>(text: &[T], bounds: &[T], signed: bool, span: &mut usize) -> u32
+    ensures { NumberGiven
+        (bounds_refusal T.words (length text.now) (length bounds.now))
+        (length (range_span T.words signed (T.numbers text.now) (T.numbers bounds.now)))
+        span.old result span.new }
+{
+    let part = spans::range_span(text, bounds, signed);
+    let accepted = spans::accept_range_span(text, bounds, signed);
+    give(accepted.map(|_| part.len()), span)
+}
 
 // How long the longest front of a text is whose bytes are all in a set.
 #[unsafe(no_mangle)]
@@ -16,8 +39,7 @@ pub extern "C" fn hx_span_in_bytes(text: &[u8], set: &[u8], span: &mut usize) ->
         (length (set_span in_bytes text.now set.now)) span.old result
         span.new }
 {
-    let part = bytes::span(text, set);
-    give_number(bytes::span_refusal(text, set), part.len(), span)
+    give_span::<u8>(text, set, span)
 }
 
 // The same in words.
@@ -28,8 +50,7 @@ pub extern "C" fn hx_span_in_words(text: &[u16], set: &[u16], span: &mut usize) 
         (length (set_span in_words text.now set.now)) span.old result
         span.new }
 {
-    let part = words::span(text, set);
-    give_number(words::span_refusal(text, set), part.len(), span)
+    give_span::<u16>(text, set, span)
 }
 
 // How long the longest front of a text is whose bytes each lie in one of some ranges.
@@ -45,12 +66,7 @@ pub extern "C" fn hx_range_span_in_bytes(
         (length (range_span in_bytes (truth signed) text.now bounds.now))
         span.old result span.new }
 {
-    let part = bytes::range_span(text, bounds, truth(signed));
-    give_number(
-        bytes::range_span_refusal(text, bounds, truth(signed)),
-        part.len(),
-        span,
-    )
+    give_range_span::<u8>(text, bounds, truth(signed), span)
 }
 
 // The same in words.
@@ -66,10 +82,5 @@ pub extern "C" fn hx_range_span_in_words(
         (length (range_span in_words (truth signed) text.now bounds.now))
         span.old result span.new }
 {
-    let part = words::range_span(text, bounds, truth(signed));
-    give_number(
-        words::range_span_refusal(text, bounds, truth(signed)),
-        part.len(),
-        span,
-    )
+    give_range_span::<u16>(text, bounds, truth(signed), span)
 }

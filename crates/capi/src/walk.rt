@@ -5,7 +5,6 @@ ghost use Rattle.search.specs.Cursors.{fresh_cursor, next_match};
 ghost use Rattle.search.specs.Fills.{fill};
 ghost use Rattle.capi.specs.Crossing.{cursor_of, FilledGiven, FillGiven, NextGiven, numbers_of};
 
-use crate::weighed;
 use search::{Cursor, End, Filled, Next};
 
 // What a search returns where there is no more match, and where a fill's list is full. They are
@@ -33,7 +32,7 @@ fn numbers_of(cursor: Cursor) -> [u64; 4]
     [
         cursor.position,
         cursor.compares,
-        weighed(cursor.exhausted, 1) as u64,
+        cursor.exhausted as u64,
         cursor.stop,
     ]
 }
@@ -54,7 +53,7 @@ fn give_next(next: Next, cursor: &mut [u64; 4], position: &mut u64) -> u32
             *cursor = numbers_of(after);
             ABSENT
         }
-        Next::Refused(number, _) => number,
+        Next::Refused(refusal, _) => refusal.number(),
     }
 }
 
@@ -63,8 +62,7 @@ fn give_filled(filled: Filled, cursor: &mut [u64; 4], count: &mut usize) -> u32
     ensures { FilledGiven filled cursor.old count.old result
         cursor.new count.new }
 {
-    let end = filled.end;
-    match end {
+    match filled.end {
         End::Full => {
             *cursor = numbers_of(filled.cursor);
             *count = filled.count;
@@ -75,12 +73,12 @@ fn give_filled(filled: Filled, cursor: &mut [u64; 4], count: &mut usize) -> u32
             *count = filled.count;
             ABSENT
         }
-        End::Stopped(number) => {
+        End::Stopped(refusal) => {
             if filled.count > 0 {
                 *cursor = numbers_of(filled.cursor);
                 *count = filled.count;
             }
-            number
+            refusal.number()
         }
     }
 }
@@ -107,7 +105,7 @@ pub extern "C" fn hx_next_in_bytes(
         cursor.old position.old result cursor.new
         position.new }
 {
-    let next = cursor_of(*cursor).next_in_bytes(text, needle);
+    let next = cursor_of(*cursor).next_match::<u8>(text, needle);
     give_next(next, cursor, position)
 }
 
@@ -125,7 +123,7 @@ pub extern "C" fn hx_next_in_words(
         cursor.old position.old result cursor.new
         position.new }
 {
-    let next = cursor_of(*cursor).next_in_words(text, needle);
+    let next = cursor_of(*cursor).next_match::<u16>(text, needle);
     give_next(next, cursor, position)
 }
 
@@ -144,7 +142,7 @@ pub extern "C" fn hx_fill_in_bytes(
         cursor.old positions.old count.old result
         cursor.new positions.new count.new }
 {
-    let filled = cursor_of(*cursor).fill_in_bytes(text, needle, positions);
+    let filled = cursor_of(*cursor).fill::<u8>(text, needle, positions);
     give_filled(filled, cursor, count)
 }
 
@@ -163,6 +161,6 @@ pub extern "C" fn hx_fill_in_words(
         cursor.old positions.old count.old result
         cursor.new positions.new count.new }
 {
-    let filled = cursor_of(*cursor).fill_in_words(text, needle, positions);
+    let filled = cursor_of(*cursor).fill::<u16>(text, needle, positions);
     give_filled(filled, cursor, count)
 }

@@ -1,6 +1,8 @@
 // The slowest search of a size.
 ghost use Rattle.unit.specs.Operand.{in_bytes, in_words};
-ghost use Rattle.worst_case.specs.Cases.{WorstCase};
+ghost use Rattle.capi.specs.Crossing.{WorstGiven};
+
+use crate::status;
 
 // The text of n and the needle of m bytes on which a search takes the most compares.
 #[unsafe(no_mangle)]
@@ -10,10 +12,10 @@ pub extern "C" fn hx_worst_case_in_bytes(
     text: &mut [u8],
     needle: &mut [u8],
 ) -> u32
-    ensures { WorstCase in_bytes n m text.old needle.old
-        text.new needle.new result }
+    ensures { WorstGiven in_bytes n m text.old needle.old result
+        text.new needle.new }
 {
-    worst_case::bytes::worst_case(n, m, text, needle)
+    status(worst_case::worst_case::<u8>(n, m, text, needle))
 }
 
 // The same in words.
@@ -24,8 +26,8 @@ pub extern "C" fn hx_worst_case_in_words(
     text: &mut [u16],
     needle: &mut [u16],
 ) -> u32
-    ensures { WorstCase in_words n m text.old needle.old
-        text.new needle.new result }
+    ensures { WorstGiven in_words n m text.old needle.old result
+        text.new needle.new }
 {
-    worst_case::words::worst_case(n, m, text, needle)
+    status(worst_case::worst_case::<u16>(n, m, text, needle))
 }

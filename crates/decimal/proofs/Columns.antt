@@ -1,70 +1,60 @@
 -- The laws of a refusal, a column and a written buffer. A caller that knows `n < 10 ^ w` uses
 -- `accepts`, `writes` or `fills`, and `length_column`. Assumes nothing.
-use Prim.Native.Nat.{ℕ, zero, suc, ◌-◌, ◌^◌, ◌≤◌, ◌<◌}
+use Prim.Native.Nat.{ℕ, zero, suc, ◌+◌, ◌-◌, ◌^◌, ◌≤◌, ◌<◌}
 use mathlib.Core.Path.{◌≡◌, refl, sym, ap, ◌∙◌}
-use mathlib.Core.Bool.{Bool, true, false, ◌||◌}
-use mathlib.Core.List.{List, ◌++◌, append-nil}
+use mathlib.Core.List.{List, ◌++◌, append-nil, append_assoc}
+use lib.Seq.{take_at, drop_at}
 use mathlib.Core.Logic.{by_cases}
-use native.Mathlib.Decide.{ℕ_discrete, dec_lt}
+use native.Mathlib.Decide.{dec_lt}
 use native.Mathlib.Omega.{arith}
-use lib.Dec.{eqb, ltb}
-use lib.ListN.{length, drop, replicate, length-append, length-drop, length-replicate, drop_of_length-le}
-use borrow.Author.Tests.{lt-ltb, le-ltb, ne_eqb}
-use Rattle.decimal.specs.Decimal.{digits, column, refusal_for, refusal_of, written, value}
+use lib.ListN.{length, drop, replicate, length-append, length-drop, length-replicate, replicate-append-replicate, drop_of_length-le}
+use borrow.Rule.Slice.PartMut.{put_mid}
+use Rattle.std.proofs.lemmas.Grind.{common_steps}
+use Rattle.std.specs.Prelude.{Result, Ok, Err}
+use Rattle.refusals.specs.declared.Refusal.{Refusal}
+use Rattle.refusals.specs.declared.Refusal.TheVariants.{Width, Buffer}
+use Rattle.decimal.specs.Decimal.{digits, column, refusal_for, refusal_of, written, value, RightJustified}
 use Rattle.decimal.proofs.Digits.{some_digit, fits_width, fits_not, value_digits}
 
 -- ---- refusals, of a number of k digits
 
-or_last : (a b : Bool) → (a || b || true) ≡ true
-or_last true b = refl
-or_last false true = refl
-or_last false false = refl
+pub too_narrow : (k w room : ℕ) → w < k → refusal_for k w room ≡ Err Width
+too_narrow k w room h = grind (arith, common_steps)
 
-or_middle : (a b : Bool) → (a || true || b) ≡ true
-or_middle true b = refl
-or_middle false b = refl
+pub too_wide : (k w room : ℕ) → 20 < w → refusal_for k w room ≡ Err Width
+too_wide k w room h = grind (arith, common_steps)
 
-pub too_narrow : (k w room : ℕ) → w < k → refusal_for k w room ≡ 8
-unfolding refusal_for
-too_narrow k w room h = rw (lt-ltb w k h, or_last (eqb w 0) (ltb 20 w))
+pub too_short : (k w room : ℕ) → 0 < k → k ≤ w → w ≤ 20 → room < w → refusal_for k w room ≡ Err Buffer
+too_short k w room p h g s = grind (arith, common_steps)
 
-pub too_wide : (k w room : ℕ) → 20 < w → refusal_for k w room ≡ 8
-unfolding refusal_for
-too_wide k w room h = rw (lt-ltb 20 w h, or_middle (eqb w 0) (ltb w k))
-
-pub too_short : (k w room : ℕ) → 0 < k → k ≤ w → w ≤ 20 → room < w → refusal_for k w room ≡ 24
-unfolding refusal_for
-too_short k w room p h g s = rw (ne_eqb w 0 (λ e. omega arith), le-ltb 20 w g, le-ltb w k h, lt-ltb room w s)
-
-pub no_refusal : (k w room : ℕ) → 0 < k → k ≤ w → w ≤ 20 → w ≤ room → refusal_for k w room ≡ 0
-unfolding refusal_for
-no_refusal k w room p h g s = rw (ne_eqb w 0 (λ e. omega arith), le-ltb 20 w g, le-ltb w k h, le-ltb room w s)
+pub no_refusal : (k w room : ℕ) → 0 < k → k ≤ w → w ≤ 20 → w ≤ room → refusal_for k w room ≡ Ok tt
+no_refusal k w room p h g s = grind (arith, common_steps)
 
 -- only then is there no refusal
-no_refusal_only : (k w room : ℕ) → 0 < k → refusal_for k w room ≡ 0 → (k ≤ w) × (w ≤ 20) × (w ≤ room)
+no_refusal_only : (k w room : ℕ) → 0 < k → refusal_for k w room ≡ Ok tt → (k ≤ w) × (w ≤ 20) × (w ≤ room)
 no_refusal_only k w room p e =
-    by_cases (dec_lt w k) (λ h. absurd (omega (arith, sym (too_narrow k w room h) ∙ e)))
-    (λ h. by_cases (dec_lt 20 w) (λ g. absurd (omega (arith, sym (too_wide k w room g) ∙ e)))
-    (λ g. by_cases (dec_lt room w) (λ s. absurd (omega (arith, sym (too_short k w room p (omega arith) (omega arith) s) ∙ e))) (λ s. omega arith)))
+    by_cases (dec_lt w k) (λ h. let f = too_narrow k w room h in cc)
+    (λ h. by_cases (dec_lt 20 w) (λ g. let f = too_wide k w room g in cc)
+    (λ g. by_cases (dec_lt room w) (λ s. let f = too_short k w room p (omega arith) (omega arith) s in cc) (λ s. omega arith)))
 
 -- ---- refusals, of a number n
 
-pub refusal_told : (n k w room r : ℕ) → k ≡ length (digits n) → r ≡ refusal_for k w room → r ≡ refusal_of n w room
+pub refusal_told : {r : Result (Unit {0}) Refusal} (n k w room : ℕ) → k ≡ length (digits n) → r ≡ refusal_for k w room → r ≡ refusal_of n w room
 unfolding refusal_of
-refusal_told n k w room r e h = h ∙ ap (λ (m : ℕ). refusal_for m w room) e
+refusal_told n k w room e h = h ∙ ap (λ (m : ℕ). refusal_for m w room) e
 
 -- accepted, the digits fit the width and the width the buffer
-pub accepted_fits : (n w room : ℕ) → refusal_of n w room ≡ 0 → (length (digits n) ≤ w) × (w ≤ 20) × (w ≤ room)
+pub accepted_fits : (n w room : ℕ) → refusal_of n w room ≡ Ok tt → (length (digits n) ≤ w) × (w ≤ 20) × (w ≤ room)
 unfolding refusal_of
 accepted_fits n w room e = no_refusal_only (length (digits n)) w room (some_digit n) e
 
 -- a number below 10 ^ w is accepted in w columns
-pub accepts : (n w room : ℕ) → n < 10 ^ w → 0 < w → w ≤ 20 → w ≤ room → refusal_of n w room ≡ 0
+pub accepts : (n w room : ℕ) → n < 10 ^ w → 0 < w → w ≤ 20 → w ≤ room → refusal_of n w room ≡ Ok tt
 unfolding refusal_of
 accepts n w room h p g s = no_refusal (length (digits n)) w room (some_digit n) (fits_width w n p h) g s
 
 -- and any other is refused there, by number 8
-pub refuses : (n w room : ℕ) → 10 ^ w ≤ n → refusal_of n w room ≡ 8
+pub refuses : (n w room : ℕ) → 10 ^ w ≤ n → refusal_of n w room ≡ Err Width
 unfolding refusal_of
 refuses n w room h = too_narrow (length (digits n)) w room (fits_not w n h)
 
@@ -86,13 +76,21 @@ pub value_column : (n w : ℕ) → value (column n w) ≡ n
 unfolding column
 value_column n w = value_spaced (w - length (digits n)) (digits n) ∙ value_digits n
 
-pub written_accepted : (n w : ℕ) (buffer : List ℕ) → refusal_of n w (length buffer) ≡ 0 → written n w buffer ≡ column n w ++ drop w buffer
+pub written_accepted : (n w : ℕ) (buffer : List ℕ) → refusal_of n w (length buffer) ≡ Ok tt → written n w buffer ≡ column n w ++ drop w buffer
 unfolding written
 written_accepted n w buffer e = rw e
 
-pub written_refused : (n w : ℕ) (buffer : List ℕ) → (refusal_of n w (length buffer) ≡ 0 → ⊥) → written n w buffer ≡ buffer
+pub written_err : (n w : ℕ) (buffer : List ℕ) (r : Refusal) → refusal_of n w (length buffer) ≡ Err r → written n w buffer ≡ buffer
 unfolding written
-written_refused n w buffer h = rw (ne_eqb (refusal_of n w (length buffer)) 0 h)
+written_err n w buffer r e = rw e
+
+-- accepted, or refused
+pub by_answer {ℓ} : {X : Type ℓ} (t : Result (Unit {0}) Refusal) → (t ≡ Ok tt → X) → ((r : Refusal) → t ≡ Err r → X) → X
+by_answer (Ok tt) f g = f refl
+by_answer (Err r) f g = g r refl
+
+pub written_refused : (n w : ℕ) (buffer : List ℕ) → (refusal_of n w (length buffer) ≡ Ok tt → ⊥) → written n w buffer ≡ buffer
+written_refused n w buffer h = by_answer (refusal_of n w (length buffer)) (λ e. absurd (h e)) (written_err n w buffer)
 
 -- a number below 10 ^ w is written in w columns at the front of a buffer
 pub writes : (n w : ℕ) (buffer : List ℕ) → n < 10 ^ w → 0 < w → w ≤ 20 → w ≤ length buffer → written n w buffer ≡ column n w ++ drop w buffer
@@ -107,6 +105,34 @@ fills n w buffer h p g s =
 -- no call changes the length of the buffer
 pub length_written : (n w : ℕ) (buffer : List ℕ) → length (written n w buffer) ≡ length buffer
 length_written n w buffer =
-    by_cases (ℕ_discrete (refusal_of n w (length buffer)) 0)
+    by_answer (refusal_of n w (length buffer))
     (λ e. let f = accepted_fits n w (length buffer) e in rw (written_accepted n w buffer e, length-append, length-drop, column_length n w f.0) (omega (arith, f.2)))
-    (λ h. rw (written_refused n w buffer h))
+    (λ r h. rw (written_err n w buffer r h))
+
+-- ---- the call, of a number of k digits
+
+module _ (n w k : ℕ) (buffer : List ℕ) (e : k ≡ length (digits n)) where
+  -- refused, the buffer stays
+  pub kept_refused : {out : Result (Unit {0}) Refusal} (r : Refusal) → out ≡ Err r → out ≡ refusal_for k w (length buffer) → RightJustified n w buffer buffer out
+  kept_refused r q h =
+      let t = refusal_told n k w (length buffer) e h in
+      record { answer = t; buffer = sym (written_err n w buffer r (sym t ∙ q)) }
+
+  -- accepted, the spaces and then the digits at their end have been put
+  pub put_accepted : (spaces ds : List ℕ) → Ok tt ≡ refusal_for k w (length buffer) → spaces ≡ replicate w 32 → ds ≡ digits n
+      → RightJustified n w buffer (put_mid (w - k) (w - (w - k)) (spaces ++ drop w buffer) ds) (Ok tt)
+  unfolding column
+  put_accepted spaces ds h s d =
+      let t = refusal_told n k w (length buffer) e h in
+      let f = accepted_fits n w (length buffer) (sym t) in
+      let u : w - k + (w - (w - k)) ≡ w = omega (arith, f, e) in
+      let split : replicate {A = ℕ} w 32 ≡ replicate (w - k) 32 ++ replicate (w - (w - k)) 32 =
+      sym (replicate-append-replicate (w - k) (w - (w - k)) 32 ∙ rw u) in
+      let l : length (replicate {A = ℕ} (w - k) 32) ≡ w - k = length-replicate (w - k) 32 in
+      let m : length (replicate {A = ℕ} (w - (w - k)) 32) ≡ w - (w - k) = length-replicate (w - (w - k)) 32 in
+      record {
+        answer = t;
+        buffer =
+            rw (written_accepted n w buffer (sym t), s, d, ← e, split, append_assoc, take_at (replicate (w - k) 32) (replicate (w - (w - k)) 32 ++ drop w buffer) (w - k) l, drop_at (replicate (w - k) 32) (replicate (w - (w - k)) 32 ++ drop w buffer) (w - k) l, drop_at (replicate (w - (w - k)) 32) (drop w buffer) (w - (w - k)) m)
+            (sym (append_assoc (replicate (w - k) 32) (digits n) (drop w buffer)));
+      }

@@ -1,51 +1,53 @@
--- What the stores of `put_spaces` and `put_digits` make of a buffer. Assumes nothing.
+-- What the stores of `put_digits` make of its places. Assumes nothing.
 use Prim.Native.Nat.{ℕ, zero, suc, ◌+◌, ◌-◌, ◌/◌, ◌%◌, ◌≤◌, ◌<◌}
-use mathlib.Core.Path.{◌≡◌, refl, ap}
-use mathlib.Core.List.{List, ◌∷◌, ◌++◌, append_assoc}
-use native.Mathlib.Nat.{not-suc-le-zero}
-use native.Mathlib.Numerals.{add-one}
+use mathlib.Core.Path.{◌≡◌, refl, sym, ap, subst, ◌∙◌}
+use mathlib.Core.Logic.{by_cases}
+use mathlib.Core.List.{List, [], ◌∷◌, ◌++◌, append_assoc, append-nil}
+use native.Mathlib.Decide.{dec_lt}
 use native.Mathlib.Omega.{arith}
-use lib.ListN.{length, get_or, take, drop, set, replicate, length-append, length-set, length-replicate, replicate-append-replicate}
-use lib.Seq.{take-append-le, drop_at, drop-cons, set_at, set_split, take-set-le, drop-set-lt, get_or-set_same}
-use Rattle.decimal.specs.Decimal.{digits, column}
-use Rattle.decimal.proofs.Digits.{digits_one, digits_more}
+use lib.ListN.{length, drop, set, length-append, length-set}
+use lib.Seq.{drop-cons, drop-length, drop-set-lt, get_or-set_same}
+use Rattle.decimal.specs.Decimal.{digits}
+use Rattle.decimal.proofs.Digits.{digits_one, digits_more, some_digit}
 
--- one space more at the front
-pub spaces_more : (b : List ℕ) (i : ℕ) → i < length b → set (replicate i 32 ++ drop i b) i 32 ≡ replicate (i + 1) 32 ++ drop (i + 1) b
-spaces_more b i h =
-    rw (drop-cons b i 0 h, set_at (replicate i 32) (get_or b i 0) (drop (suc i) b) 32 i (length-replicate i 32), ← replicate-append-replicate {A = ℕ} i 1 32, append_assoc, add-one)
+-- the digits that are left to be written into i places: those of `rest`, or none
+abbrev pub left : ℕ → ℕ → List ℕ
+left zero rest = []
+left (suc i) rest = digits rest
 
--- a list with the digits of n put so that they end before `at`
-abbrev pub placed : ℕ → ℕ → List ℕ → List ℕ
-placed n at b = take (at - length (digits n)) b ++ (digits n ++ drop at b)
+pub left_some : (i rest : ℕ) → 0 < i → left i rest ≡ digits rest
+left_some zero rest h = absurd (omega arith)
+left_some (suc i) rest h = refl
 
 drop_set : (b : List ℕ) (i d : ℕ) → i < length b → drop i (set b i d) ≡ d ∷ drop (suc i) b
 drop_set b i d h =
     rw (drop-cons (set b i d) i 0 (rw length-set h), get_or-set_same b i d 0 h, drop-set-lt (suc i) b i d (omega arith))
 
--- the last digit is put; the others follow
-pub placed_more : (n at i : ℕ) (b : List ℕ) → at ≡ suc i → 10 ≤ n → length (digits n) ≤ at → at ≤ length b → placed (n / 10) i (set b i (48 + n % 10)) ≡ placed n at b
-placed_more n at i b e h f g =
-    let front = digits (n / 10) in
-    let f' : length front ≤ i = omega (arith, rw (digits_more n h, length-append) at f) in
-    let q : suc i - (length front + 1) ≡ i - length front = omega arith in
-    rw (take-set-le (i - length front) b i (48 + n % 10) (omega arith), drop_set b i (48 + n % 10) (omega arith), e, digits_more n h, length-append, append_assoc, q)
+-- the last digit, and those before it
+last_left : (i n : ℕ) → length (digits n) ≡ suc i → (length (left i (n / 10)) ≡ i) × (digits n ≡ left i (n / 10) ++ ((48 + n % 10) ∷ []))
+last_left i n e =
+    by_cases (dec_lt n 10)
+    (λ h. let z : 0 ≡ i = omega (arith, ap length (digits_one n h)) in
+    let r : n % 10 ≡ n = omega arith in
+    rw (← z, r) (refl, digits_one n h))
+    (λ h. let g : 10 ≤ n = omega arith in
+    let m = digits_more n g in
+    let k : length (digits (n / 10)) ≡ i = omega (arith, rw (m, length-append) at e) in
+    rw (left_some i (n / 10) (omega (arith, some_digit (n / 10)))) (k, m))
 
--- the one digit is put
-pub placed_one : (n at i : ℕ) (b : List ℕ) → at ≡ suc i → n < 10 → at ≤ length b → set b i (48 + n) ≡ placed n at b
-placed_one n at i b e h g =
-    let q : suc i - 1 ≡ i = omega arith in
-    rw (set_split b i (48 + n) (omega arith), e, digits_one n h, q)
+-- what a loop over i places of the digits of n keeps
+abbrev pub Left : ℕ → ℕ → ℕ → List ℕ → Type 0
+Left n i rest b = (length b ≡ length (digits n)) × (length (left i rest) ≡ i) × (left i rest ++ drop i b ≡ digits n)
 
-take_replicate : (m n a : ℕ) → m ≤ n → take m (replicate n a) ≡ replicate m a
-take_replicate zero n a h = refl
-take_replicate (suc m) zero a h = absurd (not-suc-le-zero h)
-take_replicate (suc m) (suc n) a h = ap (λ (l : List ℕ). a ∷ l) (take_replicate m n a (omega arith))
+pub left_all : (n : ℕ) (b : List ℕ) → length b ≡ length (digits n) → Left n (length b) n b
+left_all n b e = rw (left_some (length b) n (omega (arith, some_digit n)), drop-length b) (e, sym e, append-nil (digits n))
 
--- spaces in the whole width, and then the digits at its end: the column, and the bytes after it
-pub placed_column : (n w : ℕ) (b : List ℕ) → length (digits n) ≤ w → placed n w (replicate w 32 ++ drop w b) ≡ column n w ++ drop w b
-unfolding column
-placed_column n w b h =
-    let spaces : List ℕ = replicate w 32 in
-    let f : w - length (digits n) ≤ length spaces = rw length-replicate (omega arith) in
-    rw (take-append-le (w - length (digits n)) spaces (drop w b) f, take_replicate (w - length (digits n)) w 32 (omega arith), drop_at spaces (drop w b) w (length-replicate w 32), append_assoc)
+-- the last digit that is left is stored
+stored : (n i rest d : ℕ) (b : List ℕ) → i < length b → d ≡ 48 + rest % 10 → Left n (suc i) rest b → Left n i (rest / 10) (set b i d)
+stored n i rest d b h q l =
+    let m = last_left i rest l.1 in
+    (simp length-set l.0, m.0, rw (q, drop_set b i (48 + rest % 10) h) (sym (append_assoc (left i (rest / 10)) ((48 + rest % 10) ∷ []) (drop (suc i) b)) ∙ ap (λ (xs : List ℕ). xs ++ drop (suc i) b) (sym m.1) ∙ l.2))
+
+pub left_less : (n i rest d : ℕ) (b : List ℕ) → 0 < i → i ≤ length b → d ≡ 48 + rest % 10 → Left n i rest b → Left n (i - 1) (rest / 10) (set b (i - 1) d)
+left_less n zero rest d b p h q l = absurd (omega arith)
+left_less n (suc i) rest d b p h q l = let z : i ≡ suc i - 1 = omega arith in subst (λ (j : ℕ). Left n j (rest / 10) (set b j d)) z (stored n i rest d b (omega arith) q l)

@@ -1,7 +1,9 @@
 -- A number in decimal, and the column that it is written in (document 01, "Runs, order and
 -- columns", numbers 8 and 24). Each definition computes. Bytes are numbers: 48 to 57 are the digits
 -- 0 to 9, and 32 is a space.
-use Rattle.std.specs.Prelude.{ℕ, zero, suc, ◌+◌, ◌-◌, ◌*◌, ◌/◌, ◌%◌, ◌≤◌, ◌<◌, ◌≡◌, cond, ◌||◌, List, [], ◌∷◌, ◌++◌, eqb, ltb, length, get_or, drop, replicate}
+use Rattle.std.specs.Prelude.{ℕ, zero, suc, ◌+◌, ◌-◌, ◌*◌, ◌/◌, ◌%◌, ◌≤◌, ◌<◌, ◌≡◌, cond, ◌||◌, List, [], ◌∷◌, ◌++◌, eqb, ltb, length, get_or, drop, replicate, Result, Ok, Err, is_ok}
+use Rattle.refusals.specs.declared.Refusal.{Refusal}
+use Rattle.refusals.specs.declared.Refusal.TheVariants.{Width, Buffer}
 
 -- no digits for 0, so that no zero leads. `digits_of` is handed on as a function, so that it runs
 -- only where it is wanted
@@ -22,23 +24,24 @@ digits n = digits_within (suc n) n
 unfoldable pub column : ℕ → ℕ → List ℕ
 column n w = replicate (w - length (digits n)) 32 ++ digits n
 
--- why a number of k digits is refused in w columns of a buffer of `room` bytes: 8 for the width,
--- before 24 for the buffer; 0 where it is accepted
-unfoldable pub refusal_for : ℕ → ℕ → ℕ → ℕ
-refusal_for k w room = cond (eqb w 0 || ltb 20 w || ltb w k) 8 (cond (ltb room w) 24 0)
+-- a number of k digits in w columns of a buffer of `room` bytes is refused, by 8 for the width
+-- before 24 for the buffer, or accepted
+abbrev pub refusal_for : ℕ → ℕ → ℕ → Result (Unit {0}) Refusal
+refusal_for k w room =
+    cond (eqb w 0 || ltb 20 w || ltb w k) (Err Width) (cond (ltb room w) (Err Buffer) (Ok tt))
 
 -- the same of the number itself
-unfoldable pub refusal_of : ℕ → ℕ → ℕ → ℕ
+unfoldable pub refusal_of : ℕ → ℕ → ℕ → Result (Unit {0}) Refusal
 refusal_of n w room = refusal_for (length (digits n)) w room
 
 -- the buffer after the call: unchanged where it was refused; else the column at the front, and the
 -- bytes after the width as they were
 unfoldable pub written : ℕ → ℕ → List ℕ → List ℕ
 written n w buffer =
-    cond (eqb (refusal_of n w (length buffer)) 0) (column n w ++ drop w buffer) buffer
+    cond (is_ok (refusal_of n w (length buffer))) (column n w ++ drop w buffer) buffer
 
 -- the call: what it answers, and the buffer that it leaves
-pub record RightJustified (n w : ℕ) (before after : List ℕ) (r : ℕ) : Type 0 where
+pub record RightJustified (n w : ℕ) (before after : List ℕ) (r : Result (Unit {0}) Refusal) : Type 0 where
   pub answer : r ≡ refusal_of n w (length before)
   pub buffer : after ≡ written n w before
 

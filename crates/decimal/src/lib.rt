@@ -1,18 +1,13 @@
 // The column writer: a number in decimal, right-justified with spaces in a width, at the front of
 // the caller's buffer.
 //
-// Public call: `right_justified`. It asks nothing of its arguments, and answers 0, or the number by
-// which it refuses them.
+// Public call: `right_justified`. It asks nothing of its arguments.
 #![tactic(auto)]
 
-ghost use Rattle.std.specs.Prelude.{◌+◌, ◌-◌, ◌≤◌, ◌<◌, ◌≡◌, ◌++◌, length, take, drop, replicate};
+ghost use Rattle.std.specs.Prelude.{◌+◌, ◌<◌, ◌≡◌, length};
 ghost use Rattle.decimal.specs.Decimal.{digits, refusal_for, RightJustified};
 
-// Number 8: the width is 0 or above 20, or the number has more digits than the width.
-pub const WIDTH_REFUSED: u32 = 8;
-
-// Number 24: the buffer is shorter than the width.
-pub const BUFFER_REFUSED: u32 = 24;
+use refusals::Refusal;
 
 // The widest column.
 pub const WIDEST: usize = 20;
@@ -21,37 +16,33 @@ pub const WIDEST: usize = 20;
 const MOST_DIGITS: usize = 20;
 
 // How many digits a number has. Powers of ten are compared, so that only the writing divides. At
-// the loop's test `power` is 10^(count - 1).
+// the loop's test `power` is 10^count.
 fn digit_count(number: u64) -> usize
     ensures { result ≡ length (digits number) }
 {
-    let mut count: usize = 1;
     let mut power: u64 = 1;
-    while count < MOST_DIGITS {
+    for count in 1..MOST_DIGITS {
         power *= 10;
         if number < power {
             return count;
         }
-        count += 1;
     }
-    count
+    MOST_DIGITS
 }
 
-// The number by which a call is refused, or 0: input before state.
-fn refusal(count: usize, width: usize, room: usize) -> u32
+// A number of `count` digits is accepted, or refused: input before state.
+fn accept(count: usize, width: usize, room: usize) -> Result<(), Refusal>
     requires { 0 < count }
     ensures { result ≡ refusal_for count width room }
 {
-    if width < count {
-        return WIDTH_REFUSED; // too narrow, as 0 is for every number
-    }
-    if width > WIDEST {
-        return WIDTH_REFUSED; // too wide
+    // too narrow, as 0 is for every number, or too wide
+    if width < count || width > WIDEST {
+        return Err(Refusal::Width);
     }
     if room < width {
-        return BUFFER_REFUSED;
+        return Err(Refusal::Buffer);
     }
-    0
+    Ok(())
 }
 
 // The digit of a number below ten.
@@ -62,44 +53,29 @@ fn digit(value: u64) -> u8
     b'0' + value as u8
 }
 
-// Fills the front of the buffer with spaces.
-fn put_spaces(end: usize, buffer: &mut [u8])
-    requires { end ≤ length buffer.old }
-    ensures { buffer.new ≡ replicate end 32 ++ drop end buffer.old }
-{
-    for i in 0..end {
-        buffer[i] = b' ';
-    }
-}
-
-// Writes the digits of a number so that they end before `end`, the last one first.
-fn put_digits(number: u64, end: usize, buffer: &mut [u8])
-    requires { (length (digits number) ≤ end) × (end ≤ length buffer.old) }
-    ensures { buffer.new
-        ≡ take (end - length (digits number)) buffer.old
-        ++ (digits number ++ drop end buffer.old) }
+// Writes the digits of a number into as many places, the last one first.
+fn put_digits(number: u64, places: &mut [u8])
+    requires { length places.old ≡ length (digits number) }
+    ensures { places.new ≡ digits number }
 {
     let mut rest = number;
-    let mut at = end;
-    while rest >= 10 {
-        at -= 1;
-        buffer[at] = digit(rest % 10);
-        rest = rest / 10;
+    for i in (0..places.len()).rev() {
+        places[i] = digit(rest % 10);
+        rest /= 10;
     }
-    buffer[at - 1] = digit(rest);
 }
 
 // Writes a number, right-justified with spaces, into the first `width` bytes of the buffer; the
-// bytes after them stay. It answers 0. Refused, it writes nothing and answers the refusal's number.
-pub fn right_justified(number: u64, width: usize, buffer: &mut [u8]) -> u32
+// bytes after them stay. Refused, it writes nothing: for number 8 the width is 0 or above 20, or
+// the number has more digits; for 24 the buffer is shorter than the width.
+pub fn right_justified(number: u64, width: usize, buffer: &mut [u8]) -> Result<(), Refusal>
     ensures { RightJustified number width buffer.old buffer.new result }
 {
     let count = digit_count(number);
     let room = buffer.len();
-    let refused = refusal(count, width, room);
-    if refused == 0 {
-        put_spaces(width, buffer);
-        put_digits(number, width, buffer);
-    }
-    refused
+    accept(count, width, room)?;
+    // all columns, for speed: where the width is a constant, so is what is filled
+    buffer[..width].fill(b' ');
+    put_digits(number, &mut buffer[width - count..width]);
+    Ok(())
 }

@@ -7,9 +7,9 @@ use native.Mathlib.Omega.{arith}
 use native.Mathlib.Nat.{sub-zero}
 use native.Mathlib.Numerals.{add-one}
 use lib.ListN.{length, get_or, set, take, replicate, length-append, length-replicate}
-use lib.Seq.{set_at, take-suc}
+use lib.Seq.{ext_get_or, set_at, take-suc}
 use Rattle.bits.specs.Bits.{tabulate}
-use Rattle.bits.proofs.Lists.{length_tabulate}
+use Rattle.bits.proofs.Lists.{length_tabulate, get_or_tabulate}
 use Rattle.entries.specs.declared.Entry.{Entry}
 use Rattle.entries.specs.Entries.{empty_entry, filled}
 
@@ -34,6 +34,11 @@ module _ {A : Type 0} (m : ℕ) (z : A) (f : ℕ → A) where
       ap (λ (l : List A). set l i v) e
       ∙ rw (k, set_at (tabulate i f) z (replicate (m - suc i) z) v i (length_tabulate i f), q, add-one)
       (sym (append_assoc (tabulate i f) (f i ∷ []) (replicate (m - suc i) z)))
+
+-- a list of n elements, of which element k is f k
+pub table_by_each : {A : Type 0} (f : ℕ → A) (xs : List A) (n : ℕ) (d : A) → length xs ≡ n → ((k : ℕ) → k < n → get_or xs k d ≡ f k) → xs ≡ tabulate n f
+table_by_each f xs n d h e =
+    ext_get_or d xs (tabulate n f) (h ∙ sym (length_tabulate n f)) (λ k u. e k (omega arith) ∙ sym (get_or_tabulate n k f d (omega arith)))
 
 -- the first n of a list, one by one
 pub table_front : {A B : Type 0} (g : A → B) (n : ℕ) (l : List A) (d : A) → n ≤ length l → tabulate n (λ i. g (get_or l i d)) ≡ map g (take n l)

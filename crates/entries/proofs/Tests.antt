@@ -1,18 +1,23 @@
 -- What the tests of entries come to. Assumes nothing.
-use Prim.Native.Nat.{ℕ, suc, ◌+◌, ◌≤◌, ◌<◌, min}
+use Prim.Native.Nat.{ℕ, zero, suc, ◌+◌, ◌≤◌, ◌<◌, min}
 use mathlib.Core.Path.{◌≡◌, refl, sym, ◌∙◌}
-use mathlib.Core.Bool.{Bool, true, false, ◌||◌}
-use mathlib.Core.List.{List}
+use mathlib.Core.Bool.{Bool, true, false, cond, ◌||◌}
+use mathlib.Core.List.{List, [], ◌∷◌, ◌++◌}
 use native.Mathlib.Omega.{arith}
 use native.Mathlib.Numerals.{add-one}
 use lib.Dec.{ltb}
 use lib.ListN.{length, get_or, take}
-use lib.Seq.{take_all}
+use lib.Seq.{take_all, take-suc}
 use borrow.Author.Tests.{lt-ltb, le-ltb, ltb-false, eqb-false}
 use Rattle.bits.specs.Bits.{any_below}
 use Rattle.bits.proofs.Below.{by_order, by_test, or_true, any_more_below}
+use Rattle.std.specs.List.{list_any}
+use Rattle.std.specs.Prelude.{Result, Ok, Err}
+use Rattle.refusals.specs.declared.Refusal.{Refusal}
+use Rattle.refusals.specs.declared.Refusal.TheVariants.{Count}
+use Rattle.refusals.specs.declared.Refusal.TheVariants as TheVariants
 use Rattle.entries.specs.declared.Entry.{Entry}
-use Rattle.entries.specs.Entries.{bad_entry, no_entry, form_refusal}
+use Rattle.entries.specs.Entries.{bad_entry, no_entry, form_refusal, if_accepted}
 
 -- ---- a test of each number below n
 
@@ -30,14 +35,6 @@ module _ (p : ℕ → Bool) where
   any_next i b h e = h ∙ sym (rw (add-one, e) (or_false (any_below i p)))
 
 -- ---- bad entries
-
-pub bad_minute : (e : Entry) → 1439 < e.minute → bad_entry e ≡ true
-unfolding bad_entry
-bad_minute e h = rw (lt-ltb 1439 e.minute h)
-
-pub length_left : (e : Entry) → e.minute ≤ 1439 → ltb 32 e.length ≡ bad_entry e
-unfolding bad_entry
-length_left e h = rw (le-ltb 1439 e.minute h)
 
 -- an entry that is not bad has a minute of the day, and a name within 32
 good_parts : (s t : Bool) → (s || t) ≡ false → (s ≡ false) × (t ≡ false)
@@ -58,25 +55,43 @@ module _ (es : List Entry) (n : ℕ) where
   abbrev pub bad_at : ℕ → Bool
   bad_at i = bad_entry (get_or es i no_entry)
 
-  pub too_many : 200 < n → form_refusal es n ≡ 32
+  pub too_many : 200 < n → form_refusal es n ≡ Err Count
   unfolding form_refusal
   too_many h = rw (lt-ltb 200 n h)
 
-  pub one_bad : (i : ℕ) → n ≤ 200 → i < n → bad_at i ≡ true → form_refusal es n ≡ 33
+  -- one that is bad
+  one_bad : (i : ℕ) → n ≤ 200 → i < n → bad_at i ≡ true → form_refusal es n ≡ Err TheVariants.Entry
   unfolding form_refusal
   one_bad i h u e = rw (le-ltb 200 n h, any_at bad_at n i u e)
 
-  pub none_bad : n ≤ 200 → any_below n bad_at ≡ false → form_refusal es n ≡ 0
-  unfolding form_refusal
-  none_bad h e = rw (le-ltb 200 n h, e)
-
   -- accepted, the count is within 200 and no entry is bad
-  pub form_count : form_refusal es n ≡ 0 → n ≤ 200
-  form_count e = by_order 200 n (λ h. absurd (let f : form_refusal es n ≡ 32 = too_many h in omega arith)) (λ h. h)
+  pub form_count : form_refusal es n ≡ Ok tt → n ≤ 200
+  form_count e = by_order 200 n (λ h. absurd (let f : form_refusal es n ≡ Err Count = too_many h in cc)) (λ h. h)
 
-  pub form_good : form_refusal es n ≡ 0 → (i : ℕ) → i < n → bad_at i ≡ false
+  pub form_good : form_refusal es n ≡ Ok tt → (i : ℕ) → i < n → bad_at i ≡ false
   form_good e i u =
-      by_test (bad_at i) (λ t. absurd (let f : form_refusal es n ≡ 33 = one_bad i (form_count e) u t in omega arith)) (λ t. t)
+      by_test (bad_at i) (λ t. absurd (let f : form_refusal es n ≡ Err TheVariants.Entry = one_bad i (form_count e) u t in cc)) (λ t. t)
+
+-- ---- the first entries, looked at one after the other
+
+some_more : (p : Entry → Bool) (xs : List Entry) (x : Entry) → list_any p (xs ++ x ∷ []) ≡ (list_any p xs || p x)
+some_more p [] x = or_false (p x)
+some_more p (y ∷ ys) x = by_test (p y) (λ e. rw e) (λ e. rw e (some_more p ys x))
+
+some_front : (p : Entry → Bool) (es : List Entry) (n : ℕ) → n ≤ length es → list_any p (take n es) ≡ any_below n (λ i. p (get_or es i no_entry))
+some_front p es zero h = refl
+some_front p es (suc n) h = rw (take-suc es n no_entry h, some_more, some_front p es n (omega arith))
+
+pub form_by_list : (es : List Entry) (n : ℕ) → length es ≡ 200 → form_refusal es n ≡ cond (ltb 200 n) (Err Count) (cond (list_any bad_entry (take n es)) (Err TheVariants.Entry) (Ok tt))
+unfolding form_refusal
+form_by_list es n h =
+    by_order 200 n (λ u. rw (lt-ltb 200 n u)) (λ u. rw (some_front bad_entry es n (omega arith)))
+
+-- ---- tests, one after the other
+
+pub accepted_both : {A : Type 0} {a : A} (t : Result (Unit {0}) Refusal) (next : Result A Refusal) → if_accepted t next ≡ Ok a → (t ≡ Ok tt) × (next ≡ Ok a)
+accepted_both (Ok tt) next e = (refl, e)
+accepted_both (Err r) next e = cc
 
 -- ---- a name cut at 32 bytes is the name
 

@@ -1,10 +1,13 @@
 -- An entry of the day (document 02 [5]): a minute of the day, a name with its length, and an entry
 -- number. When it is bad, what it is cleared, and when it comes before another.
-use Rattle.std.specs.Prelude.{ℕ, ◌-◌, ◌≡◌, Bool, true, false, cond, ◌||◌, List, [], ◌++◌, ltb, length, get_or, take, replicate, ℤ, pos}
+use Rattle.std.specs.Prelude.{ℕ, ◌-◌, ◌≡◌, Bool, true, false, cond, ◌||◌, List, [], ◌++◌, ltb, length, get_or, take, replicate, ℤ, pos, Result, Ok, Err}
 use Rattle.std.specs.Int.Signed.{lt_z}
 use Rattle.bits.specs.Bits.{any_below, tabulate}
 use Rattle.unit.specs.Operand.{in_bytes}
 use Rattle.orders.specs.Orders.{order}
+use Rattle.refusals.specs.declared.Refusal.{Refusal}
+use Rattle.refusals.specs.declared.Refusal.TheVariants.{Count}
+use Rattle.refusals.specs.declared.Refusal.TheVariants as TheVariants
 use Rattle.entries.specs.declared.Entry.{Entry}
 
 -- the most entries of a day, the last minute of a day, and the most bytes of a name
@@ -84,7 +87,12 @@ pub record IsTotal : Type 0 where
 unfoldable pub bad_entry : Entry → Bool
 bad_entry e = ltb last_minute e.minute || ltb longest_name e.length
 
--- the number that refuses n entries by their count or one by one, or 0
-unfoldable pub form_refusal : List Entry → ℕ → ℕ
+-- what comes next, where a test was passed
+abbrev pub if_accepted : {A : Type 0} → Result (Unit {0}) Refusal → Result A Refusal → Result A Refusal
+if_accepted (Ok tt) next = next
+if_accepted (Err r) next = Err r
+
+-- n entries are refused by their count, or one by one, or accepted
+unfoldable pub form_refusal : List Entry → ℕ → Result (Unit {0}) Refusal
 form_refusal es n =
-    cond (ltb most_entries n) 32 (cond (any_below n (λ i. bad_entry (get_or es i no_entry))) 33 0)
+    cond (ltb most_entries n) (Err Count) (cond (any_below n (λ i. bad_entry (get_or es i no_entry))) (Err TheVariants.Entry) (Ok tt))

@@ -2,13 +2,17 @@
 // past the length, and which of two entries comes first.
 //
 // Public calls: `Entry::empty`; `is_bad`, `cleared` and `precedes`, by value on an entry;
-// `form_refusal`, which tests entries one by one.
+// `accept_form`, which tests entries one by one.
 #![tactic(auto)]
 
 ghost use Rattle.std.specs.Prelude.{◌≡◌, ◌≤◌, cond, ltb, take};
+ghost use Rattle.std.specs.List.{list_any};
 ghost use Rattle.unit.specs.Operand.{in_bytes};
-ghost use Rattle.orders.specs.Orders.{order};
+ghost use Rattle.orders.specs.Orders.{order, ordering_of};
 ghost use Rattle.entries.specs.Entries.{bad_entry, cleared_entry, cleared_name, empty_entry, form_refusal, precedes, unsigned};
+
+use refusals::Refusal;
+use std::cmp::Ordering;
 
 // The most entries of a day, the last minute of a day, and the most bytes of a name.
 pub const MOST_ENTRIES: usize = 200;
@@ -16,12 +20,6 @@ pub const MOST_ENTRIES: usize = 200;
 pub const LAST_MINUTE: u16 = 1439;
 
 pub const LONGEST_NAME: usize = 32;
-
-// Refusal number 32 of document 02: more than 200 entries. Number 33: an entry with a minute above
-// 1,439, or with a name of more than 32 bytes.
-pub const COUNT_REFUSED: u32 = 32;
-
-pub const ENTRY_REFUSED: u32 = 33;
 
 // An entry of document 02, a service: its entry number, a minute of the day, and a name, which is
 // the first `length` bytes of `name`. The fields can hold what is refused.
@@ -45,62 +43,52 @@ fn cleared_name(name: [u8; LONGEST_NAME], length: usize) -> [u8; LONGEST_NAME]
     ensures { result ≡ cleared_name name length }
 {
     let mut cleared = [0u8; LONGEST_NAME];
-    let mut i = 0;
-    while i < LONGEST_NAME {
+    for i in 0..LONGEST_NAME {
         cleared[i] = kept(name[i], i, length);
-        i += 1;
     }
     cleared
 }
 
 // The order of two names, of n and m bytes.
-fn name_order(x: [u8; LONGEST_NAME], n: usize, y: [u8; LONGEST_NAME], m: usize) -> i32
-    ensures { result ≡ order in_bytes unsigned (take n x) (take m y) }
+fn name_order(x: [u8; LONGEST_NAME], n: usize, y: [u8; LONGEST_NAME], m: usize) -> Ordering
+    ensures { result ≡ ordering_of (order in_bytes unsigned (take n x) (take m y)) }
 {
-    let e = bits::min(n, LONGEST_NAME);
-    let f = bits::min(m, LONGEST_NAME);
-    let answer = orders::bytes::compare(&x[..e], &y[..f], false);
-    answer.order
+    let e = n.min(LONGEST_NAME);
+    let f = m.min(LONGEST_NAME);
+    orders::compare(&x[..e], &y[..f], false).unwrap()
 }
 
 impl Entry {
     // An entry of zeros.
+    #[tactic(auto, unfolding(crate::specs::Entries::empty_entry))]
     pub fn empty() -> Entry
         ensures { result ≡ empty_entry }
     {
-        let name = [0u8; LONGEST_NAME];
         Entry {
             number: 0,
             minute: 0,
             length: 0,
-            name,
+            name: [0; LONGEST_NAME],
         }
     }
 
     // No day has its minute, or its name is too long.
+    #[tactic(auto, unfolding(crate::specs::Entries::bad_entry))]
     pub fn is_bad(self) -> bool
         ensures { result ≡ bad_entry self }
     {
-        if self.minute > LAST_MINUTE {
-            return true;
-        }
-        self.length as usize > LONGEST_NAME
+        self.minute > LAST_MINUTE || self.length as usize > LONGEST_NAME
     }
 
     // The entry with its name bytes past the length zero. The hint is for the stack of a day:
     // inlined, one more array of entries is kept (docs/PERFORMANCE.md, "Stack").
     #[inline(never)]
+    #[tactic(auto, unfolding(crate::specs::Entries::cleared_entry))]
     pub fn cleared(self) -> Entry
         ensures { result ≡ cleared_entry self }
     {
-        let whole = self.name;
-        let name = cleared_name(whole, self.length as usize);
-        Entry {
-            number: self.number,
-            minute: self.minute,
-            length: self.length,
-            name,
-        }
+        let name = cleared_name(self.name, self.length as usize);
+        Entry { name, ..self }
     }
 
     // This entry comes before another (document 02: sorted by minute, then name by the unsigned
@@ -108,40 +96,37 @@ impl Entry {
     pub fn precedes(self, other: Entry) -> bool
         ensures { result ≡ precedes self other }
     {
-        if self.minute < other.minute {
-            return true;
-        }
-        if other.minute < self.minute {
-            return false;
-        }
-        let x = self.name;
-        let y = other.name;
-        let o = name_order(x, self.length as usize, y, other.length as usize);
-        if o < 0 {
-            return true;
-        }
-        if o > 0 {
-            return false;
-        }
-        self.number < other.number
+        self.minute
+            .cmp(&other.minute)
+            .then_with(|| {
+                name_order(
+                    self.name,
+                    self.length as usize,
+                    other.name,
+                    other.length as usize,
+                )
+            })
+            .then_with(|| self.number.cmp(&other.number))
+            .is_lt()
     }
 }
 
-// The number that refuses entries by their count or one by one, or 0. Entries past the count are
-// not looked at.
-pub fn form_refusal(entries: [Entry; MOST_ENTRIES], count: usize) -> u32
+// Some entry is bad.
+fn some_bad(entries: &[Entry]) -> bool
+    ensures { result ≡ list_any bad_entry entries.now }
+{
+    entries.iter().any(|e| e.is_bad())
+}
+
+// Refuses entries by their count or one by one. Entries past the count are not looked at.
+pub fn accept_form(entries: [Entry; MOST_ENTRIES], count: usize) -> Result<(), Refusal>
     ensures { result ≡ form_refusal entries count }
 {
     if count > MOST_ENTRIES {
-        return COUNT_REFUSED;
+        return Err(Refusal::Count);
     }
-    let mut place = 0;
-    while place < count {
-        let e = entries[place];
-        if e.is_bad() {
-            return ENTRY_REFUSED;
-        }
-        place += 1;
+    if some_bad(&entries[..count]) {
+        return Err(Refusal::Entry);
     }
-    0
+    Ok(())
 }

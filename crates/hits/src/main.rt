@@ -5,80 +5,45 @@
 // reads, calls it, and hands the bytes to the system.
 #![tactic(auto)]
 
-ghost use Rattle.hits.specs.Reads.{Within};
+ghost use Rattle.std.specs.Prelude.{IfOk, ◌≤◌, length};
 
+use std::io;
 use std::io::{Read, Stdin, Stdout, Write};
 
 // One byte more than the longest input: a longer one is seen to be too long, and need not be read
 // to its end.
 const ROOM: usize = 65537;
 
-// What reading came to: how many bytes, or a read that failed.
-#[derive(Clone, Copy)]
-enum Got {
-    Bytes(usize),
-    Failed,
-}
-
-// Reads once: how many bytes came, 0 where the input has ended.
-fn read_part(input: &mut Stdin, part: &mut [u8]) -> Got
-    ensures { Within result part.new }
-{
-    match input.read(part) {
-        Ok(n) => Got::Bytes(n),
-        Err(_) => Got::Failed,
-    }
-}
-
-// Reads until the input ends or the buffer is full.
-fn read_input(input: &mut Stdin, buffer: &mut [u8]) -> Got
-    ensures { Within result buffer.new }
+// Reads until the input ends or the buffer is full, and tells how many bytes came. The program has
+// fixed memory, so the bytes go to a buffer, and not to a `Vec` by std's `read_to_end`.
+fn read_input(input: &mut Stdin, buffer: &mut [u8]) -> io::Result<usize>
+    ensures { IfOk result (λ n. n ≤ length buffer.new) }
 {
     let mut n = 0;
     while n < buffer.len() {
-        let Got::Bytes(more) = read_part(input, &mut buffer[n..]) else {
-            return Got::Failed;
-        };
+        let more = input.read(&mut buffer[n..])?;
         if more == 0 {
-            return Got::Bytes(n);
+            break;
         }
         n += more;
     }
-    Got::Bytes(n)
-}
-
-// Writes all of it, in one call of the system where that takes all. It stops at a write that fails.
-fn write_output(output: &mut Stdout, bytes: &[u8]) {
-    let mut n = 0;
-    while n < bytes.len() {
-        let Ok(put) = output.write(&bytes[n..]) else {
-            return;
-        };
-        if put == 0 {
-            return;
-        }
-        n += put;
-    }
+    Ok(n)
 }
 
 // Writes what the program prints for an input: its lines, or the one line of its refusal.
-fn answer(output: &mut Stdout, input: &[u8]) {
+fn answer(output: &mut Stdout, input: &[u8]) -> io::Result<()> {
     let mut page = [0u8; report::LONGEST_REPORT];
-    let told = report::report(input, &mut page);
-    if told.refusal > 0 {
-        let line = report::refusal_line(told.refusal);
-        write_output(output, &line);
-        return;
+    match report::report(input, &mut page) {
+        Ok(written) => output.write_all(&page[..written]),
+        Err(refusal) => output.write_all(&report::refusal_line(refusal.number())),
     }
-    write_output(output, &page[..told.written]);
 }
 
-// A failed read ends the program with nothing written.
+// A failed read ends the program with nothing written, and a failed write ends what it writes:
+// neither is told.
 fn main(rt: HostRuntime) {
     let mut buffer = [0u8; ROOM];
-    let got = read_input(&mut rt.stdin(), &mut buffer);
-    match got {
-        Got::Bytes(n) => answer(&mut rt.stdout(), &buffer[..n]),
-        Got::Failed => {}
+    if let Ok(n) = read_input(&mut rt.stdin(), &mut buffer) {
+        let _ = answer(&mut rt.stdout(), &buffer[..n]);
     }
 }

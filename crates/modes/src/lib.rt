@@ -4,10 +4,12 @@
 // Public calls: `explicit`, `explicit_usize` and `implicit`, for every control; for searches, in
 // the module of each width, the index of `pcmpestri` at one control: `bytes::index_0c` and
 // `index_18`, `words::index_0d` and `index_19`; and `value`, what an element stands for. None asks
-// anything of its arguments.
+// anything of its arguments. `Mode` is what bytes and words differ in.
 #![tactic(auto)]
 
 pub mod bytes;
+mod compare;
+mod mode;
 pub mod words;
 
 ghost use Rattle.std.specs.Prelude.{◌≡◌, pos};
@@ -29,7 +31,7 @@ pub fn explicit(
     if k.words {
         return words::explicit(operand1, length1, operand2, length2, k);
     }
-    bytes::explicit(operand1, length1, operand2, length2, k)
+    compare::explicit(&operand1, length1, &operand2, length2, k)
 }
 
 // The same, for lengths that are not negative.
@@ -45,7 +47,7 @@ pub fn explicit_usize(
     if k.words {
         return words::explicit_usize(operand1, length1, operand2, length2, k);
     }
-    bytes::explicit_usize(operand1, length1, operand2, length2, k)
+    compare::explicit_usize(&operand1, length1, &operand2, length2, k)
 }
 
 // What an implicit call compares. Without the hint it has a frame of its own, and the mask calls

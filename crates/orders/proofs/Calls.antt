@@ -1,87 +1,63 @@
--- What an accepted call tells of its arguments, and what the calls give, refused and accepted.
--- Assumes nothing.
-use Prim.Native.Nat.{ℕ, ◌^◌, ◌≤◌, ◌<◌, min}
-use mathlib.Core.Path.{◌≡◌, refl, sym, ap, ◌∙◌}
-use mathlib.Core.Bool.{Bool, true, false, cond, ◌||◌}
-use mathlib.Core.List.{List, []}
+-- The order of two texts as std tells it: that of the elements at the first difference, else that
+-- of the lengths. Assumes nothing.
+use Prim.Native.Nat.{ℕ, ◌≤◌, ◌<◌, min}
+use mathlib.Core.Path.{◌≡◌, sym, ap, ◌∙◌}
+use mathlib.Core.Bool.{Bool, true, false, cond}
+use mathlib.Core.List.{List}
 use native.Mathlib.Omega.{arith}
-use lib.Dec.{eqb, ltb}
+use lib.Dec.{ltb}
 use lib.ListN.{length, get_or}
 use lib.IntN.{ℤ, pos}
-use lib.Signed.{lt_z, mag}
-use mir.Syntax.{w16, w32}
-use mir.Val.{SFits, to_z, of_z}
-use mir.ValLaws.{to_z-of_z}
-use mir.Facts.{sfits_widen}
-use borrow.Author.Tests.{ltb-false, eq-eqb, ne_eqb}
-use Rattle.unit.specs.Operand.{value_of}
+use lib.Signed.{lt_z}
+use Rattle.std.proofs.lemmas.Bool.Decides.{nat_tests}
+use Rattle.std.proofs.lemmas.Int.{ints}
+use Rattle.std.specs.Ordering.{nat_cmp, int_cmp}
+use Rattle.std.specs.declared.cmp.Ordering.{Ordering}
+use borrow.Author.Tests.{le-ltb}
+use Rattle.std.specs.Prelude.{Ok}
 use Rattle.blocks.specs.Blocks.{longest_text}
-use Rattle.orders.specs.declared.OrderAnswer.{OrderAnswer}
-use Rattle.orders.specs.Orders.{difference, sign, order_at, order, order_refusal, order_answer, is_second, lesser_text}
+use Rattle.bits.proofs.Below.{by_test}
+use Rattle.unit.specs.Operand.{value_of}
+use Rattle.orders.specs.Orders.{difference, sign, order_at, order, ordering_of, order_answer, told}
 use Rattle.orders.proofs.Order.{at_elements, at_end}
 
--- ---- accepted
+of_values : (a b : ℤ) → int_cmp a b ≡ ordering_of (sign a b)
+of_values a b = grind (arith, ints, nat_tests)
 
-one_test : (s t : Bool) → ◌≡◌ {A = ℕ} (cond (s || t) 2 0) 0 → (s ≡ false) × (t ≡ false)
-one_test true t e = absurd (omega arith)
-one_test false true e = absurd (omega arith)
-one_test false false e = (refl, refl)
+of_lengths : (n m : ℕ) → nat_cmp n m ≡ ordering_of (sign (pos n) (pos m))
+of_lengths n m = grind (arith, nat_tests)
 
-pub order_accepted : (n m : ℕ) → order_refusal n m ≡ 0 → (n ≤ longest_text) × (m ≤ longest_text)
-unfolding order_refusal
-order_accepted n m e =
-    let t = one_test (ltb longest_text n) (ltb longest_text m) e in
-    (ltb-false longest_text n t.0, ltb-false longest_text m t.1)
+module _ (words signed : Bool) (x y : List ℕ) (k : ℕ) (d : k ≡ difference x y) where
+  pub at_difference : k < min (length x) (length y) → (a b : ℤ) → a ≡ value_of words signed (get_or x k 0) → b ≡ value_of words signed (get_or y k 0) → int_cmp a b ≡ ordering_of (order words signed x y)
+  unfolding order
+  at_difference h a b e f =
+      let value = value_of words signed in
+      of_values a b ∙ (λ t. ordering_of (sign (e t) (f t))) ∙ ap ordering_of (sym (at_elements value x y k h) ∙ ap (order_at value x y) d)
 
--- ---- a value of sixteen bits, as one of thirty-two
+  pub with_none : min (length x) (length y) ≤ k → (n m : ℕ) → n ≡ length x → m ≡ length y → nat_cmp n m ≡ ordering_of (order words signed x y)
+  unfolding order
+  with_none h n m e f =
+      let value = value_of words signed in
+      of_lengths n m ∙ (λ t. ordering_of (sign (pos (e t)) (pos (f t)))) ∙ ap ordering_of (sym (at_end value x y k h) ∙ ap (order_at value x y) d)
 
-narrow : (z : ℤ) → mag z < 2 ^ 15 → to_z w16 (of_z w16 z) ≡ z
-narrow z h = to_z-of_z w16 z (record { sfits = h })
+-- for callers: texts within the limit have an order
+pub order_given : (words signed : Bool) (x y : List ℕ) → length x ≤ longest_text → length y ≤ longest_text → order_answer words signed x y ≡ Ok (ordering_of (order words signed x y))
+order_given words signed x y h k = rw (le-ltb longest_text (length x) h, le-ltb longest_text (length y) k)
 
-pub widened_fits : (z : ℤ) → mag z < 2 ^ 15 → SFits w32 (to_z w16 (of_z w16 z))
-widened_fits z h = rw (narrow z h) (sfits_widen {w = w16} tt (record { sfits = h }))
+pub order_value : (words signed : Bool) (x y : List ℕ) (o : Ordering) → length x ≤ longest_text → length y ≤ longest_text → order_answer words signed x y ≡ Ok o → o ≡ ordering_of (order words signed x y)
+order_value words signed x y o h k e = let f = order_given words signed x y h k in cc
 
-pub widened : (z : ℤ) → mag z < 2 ^ 15 → to_z w32 (of_z w32 (to_z w16 (of_z w16 z))) ≡ z
-widened z h = to_z-of_z w32 (to_z w16 (of_z w16 z)) (widened_fits z h) ∙ narrow z h
+-- ---- an order told as -1, 0 or 1
 
--- ---- the calls
+told_sign : (a b : ℤ) → told (ordering_of (sign a b)) ≡ sign a b
+told_sign a b = by_test (lt_z a b) (λ e. rw e) (λ e. rw e (by_test (lt_z b a) (λ f. rw f) (λ f. rw f)))
 
-module _ (words signed : Bool) (x y : List ℕ) where
-  module _ (k : ℕ) (d : k ≡ difference x y) (z : ℤ) where
-    -- at the first difference, and with none
-    pub by_elements : k < min (length x) (length y) → z ≡ sign (value_of words signed (get_or x k 0)) (value_of words signed (get_or y k 0)) → z ≡ order words signed x y
-    unfolding order
-    by_elements h e = e ∙ sym (at_elements (value_of words signed) x y k h) ∙ ap (order_at (value_of words signed) x y) d
+told_either : (t : Bool) (a b c d : ℤ) → told (ordering_of (cond t (sign a b) (sign c d))) ≡ cond t (sign a b) (sign c d)
+told_either true a b c d = told_sign a b
+told_either false a b c d = told_sign c d
 
-    pub by_lengths : min (length x) (length y) ≤ k → z ≡ sign (pos (length x)) (pos (length y)) → z ≡ order words signed x y
-    unfolding order
-    by_lengths h e = e ∙ sym (at_end (value_of words signed) x y k h) ∙ ap (order_at (value_of words signed) x y) d
-
-  module _ (r : ℕ) (e : r ≡ order_refusal (length x) (length y)) where
-    refused : 0 < r → eqb (order_refusal (length x) (length y)) 0 ≡ false
-    refused h = ne_eqb (order_refusal (length x) (length y)) 0 (λ z. omega (arith, e))
-
-    accepted : r ≡ 0 → eqb (order_refusal (length x) (length y)) 0 ≡ true
-    accepted z = eq-eqb (order_refusal (length x) (length y)) 0 (sym e ∙ z)
-
-    pub answer_refused : 0 < r → ◌≡◌ {A = OrderAnswer} (record { refusal = r; order = pos 0 }) (order_answer words signed x y)
-    unfolding order_answer
-    answer_refused h = rw (refused h) (λ t. record { refusal = e t; order = pos 0 })
-
-    pub answer_given : r ≡ 0 → (z : ℤ) → z ≡ order words signed x y → ◌≡◌ {A = OrderAnswer} (record { refusal = 0; order = z }) (order_answer words signed x y)
-    unfolding order_answer
-    answer_given h z q = rw (accepted h) (λ t. record { refusal = (sym h ∙ e) t; order = q t })
-
-    -- the texts stand at p and q
-    module _ {P : Type 0} (p q : P) where
-      pub lesser_refused : 0 < r → (p ≡ cond (is_second words signed x y) q p) × ([] ≡ lesser_text words signed x y)
-      unfolding is_second lesser_text
-      lesser_refused h = (rw (refused h), rw (refused h))
-
-      pub lesser_second : r ≡ 0 → (z : ℤ) → z ≡ order words signed x y → lt_z (pos 0) z ≡ true → (q ≡ cond (is_second words signed x y) q p) × (y ≡ lesser_text words signed x y)
-      unfolding is_second lesser_text
-      lesser_second h z g t = (rw (accepted h, sym g, t), rw (accepted h, sym g, t))
-
-      pub lesser_first : r ≡ 0 → (z : ℤ) → z ≡ order words signed x y → lt_z (pos 0) z ≡ false → (p ≡ cond (is_second words signed x y) q p) × (x ≡ lesser_text words signed x y)
-      unfolding is_second lesser_text
-      lesser_first h z g t = (rw (accepted h, sym g, t), rw (accepted h, sym g, t))
+pub told_order : (words signed : Bool) (x y : List ℕ) → told (ordering_of (order words signed x y)) ≡ order words signed x y
+unfolding order
+told_order words signed x y =
+    let k = difference x y in
+    told_either (ltb k (min (length x) (length y))) (value_of words signed (get_or x k 0)) (value_of words signed (get_or y k 0)) (pos (length x)) (pos (length y))

@@ -1,10 +1,14 @@
 -- The order of two texts (document 01, "Runs, order and columns"): at the first difference the
 -- smaller element decides; if one is the front of the other, the shorter is smaller.
-use Rattle.std.specs.Prelude.{ℕ, ◌^◌, ◌<◌, min, ◌≡◌, Bool, true, cond, not, ◌&&◌, ◌||◌, List, [], eqb, ltb, length, get_or, ℤ, pos, negsuc, neg_ℤ}
+use Rattle.std.specs.Prelude.{ℕ, ◌^◌, ◌<◌, min, ◌≡◌, Bool, true, cond, not, ◌&&◌, ◌||◌, List, [], eqb, ltb, length, get_or, ℤ, pos, negsuc, neg_ℤ, Result, Ok, Err, is_ok}
+use Rattle.std.specs.Result.{result_and}
+use Rattle.std.specs.Ordering.{int_cmp, match_ordering}
+use Rattle.std.specs.declared.cmp.Ordering.{Ordering}
 use Rattle.std.specs.Int.Signed.{lt_z, le_z}
 use Rattle.bits.specs.Bits.{least_below}
 use Rattle.unit.specs.Operand.{bits_of, value_of}
-use Rattle.orders.specs.declared.OrderAnswer.{OrderAnswer}
+use Rattle.refusals.specs.declared.Refusal.{Refusal}
+use Rattle.refusals.specs.declared.Refusal.TheVariants.{Text}
 use Rattle.blocks.specs.Blocks.{longest_text}
 
 -- the first place where two texts differ, or the end of the shorter
@@ -41,24 +45,29 @@ pub record IsOrder (words signed : Bool) : Type 0 where
 
 -- ---- the calls
 
--- the number that refuses two texts of n and m elements, or 0
-unfoldable pub order_refusal : ℕ → ℕ → ℕ
-order_refusal n m = cond (ltb longest_text n || ltb longest_text m) 2 0
+-- an order as std tells it: how -1, 0 or 1 compares with 0
+abbrev pub ordering_of : ℤ → Ordering
+ordering_of z = int_cmp z (pos 0)
 
--- refused, the number and an order of 0
-unfoldable pub order_answer : Bool → Bool → List ℕ → List ℕ → OrderAnswer
+-- and back: -1, 0 or 1. proofs/Calls.antt shows this of every order.
+abbrev pub told : Ordering → ℤ
+told o = match_ordering o (negsuc 0) (pos 0) (pos 1)
+
+-- what refuses two texts of n and m elements
+abbrev pub order_refusal : ℕ → ℕ → Result (Unit {0}) Refusal
+order_refusal n m = cond (ltb longest_text n || ltb longest_text m) (Err Text) (Ok tt)
+
+-- the order of two texts, or what refuses them
+abbrev pub order_answer : Bool → Bool → List ℕ → List ℕ → Result Ordering Refusal
 order_answer words signed x y =
-    record {
-      refusal = order_refusal (length x) (length y);
-      order = cond (eqb (order_refusal (length x) (length y)) 0) (order words signed x y) (pos 0);
-    }
+    result_and (order_refusal (length x) (length y)) (Ok (ordering_of (order words signed x y)))
 
 -- the second text is given back: it is the smaller one, and the call is not refused
-unfoldable pub is_second : Bool → Bool → List ℕ → List ℕ → Bool
+abbrev pub is_second : Bool → Bool → List ℕ → List ℕ → Bool
 is_second words signed x y =
-    eqb (order_refusal (length x) (length y)) 0 && lt_z (pos 0) (order words signed x y)
+    is_ok (order_refusal (length x) (length y)) && lt_z (pos 0) (order words signed x y)
 
 -- the smaller text, the first when equal; refused, the empty front of the first
-unfoldable pub lesser_text : Bool → Bool → List ℕ → List ℕ → List ℕ
+abbrev pub lesser_text : Bool → Bool → List ℕ → List ℕ → List ℕ
 lesser_text words signed x y =
-    cond (eqb (order_refusal (length x) (length y)) 0) (cond (is_second words signed x y) y x) []
+    cond (is_ok (order_refusal (length x) (length y))) (cond (is_second words signed x y) y x) []

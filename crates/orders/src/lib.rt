@@ -1,61 +1,87 @@
 // The order of two texts, with the string compare unit, in bytes and in words (document 01, "Runs,
 // order and columns").
 //
-// Public calls, in each of the modules `bytes` and `words`:
+// Public calls, of texts of bytes or of words:
 // - `compare` tells the order of two texts, and `lesser` gives back the smaller;
-// - `lesser_refusal` takes the arguments of `lesser` and tells the number that refuses it, or 0.
-// This file has what is the same for both widths.
+// - `accept_lesser` takes the arguments of `lesser` and tells what refuses it, if anything does.
 #![tactic(auto)]
 
-pub mod bytes;
-pub mod words;
+ghost use Rattle.std.specs.Prelude.{◌≡◌, ◌≤◌, cond, length};
+ghost use Rattle.blocks.specs.Blocks.{longest_text};
+ghost use Rattle.orders.specs.Orders.{difference, is_second, lesser_text, order, order_answer, order_refusal, ordering_of};
 
-ghost use Rattle.std.specs.Prelude.{◌≡◌, pos};
-ghost use Rattle.orders.specs.Orders.{order_refusal, sign};
+use blocks::Letter;
+use refusals::Refusal;
+use std::cmp::Ordering;
 
-// The answer of `compare`: -1 where the first text is smaller, 0 where they are equal, else 1.
-// Refused, `refusal` is the number and `order` 0.
-#[derive(Clone, Copy)]
-pub struct OrderAnswer {
-    pub refusal: u32,
-    pub order: i32,
-}
-
-// The number that refuses two texts of n and m elements, or 0.
-fn order_refusal(n: usize, m: usize) -> u32
+// What refuses two texts of n and m elements.
+fn accept(n: usize, m: usize) -> Result<(), Refusal>
     ensures { result ≡ order_refusal n m }
 {
-    if n > blocks::LONGEST_TEXT {
-        return blocks::TEXT_REFUSED;
+    if n > blocks::LONGEST_TEXT || m > blocks::LONGEST_TEXT {
+        return Err(Refusal::Text);
     }
-    if m > blocks::LONGEST_TEXT {
-        return blocks::TEXT_REFUSED;
-    }
-    0
+    Ok(())
 }
 
-// The order of two values.
-fn order_of_values(a: i32, b: i32) -> i32
-    ensures { result ≡ sign a b }
+// The first place where two texts differ, or the end of the shorter. Equal stretches go by in
+// blocks.
+fn difference<T: Letter>(first: &[T], second: &[T]) -> usize
+    requires { (length first.now ≤ longest_text) × (length second.now ≤ longest_text) }
+    ensures { result ≡ difference (T.numbers first.now) (T.numbers second.now) }
 {
-    if a < b {
-        return -1;
+    let n = first.len().min(second.len());
+    for i in (0..n).step_by(T::COUNT) {
+        let e = (i + T::COUNT).min(n);
+        let k = blocks::differ_at(&first[i..e], &second[i..e]) as usize;
+        if k < T::COUNT {
+            return i + k;
+        }
     }
-    if b < a {
-        return 1;
-    }
-    0
+    n
 }
 
-// The order of two lengths.
-fn order_of_lengths(n: usize, m: usize) -> i32
-    ensures { result ≡ sign (pos n) (pos m) }
+// The order of two texts.
+fn ordering<T: Letter>(first: &[T], second: &[T], signed: bool) -> Ordering
+    requires { (length first.now ≤ longest_text) × (length second.now ≤ longest_text) }
+    ensures { result
+        ≡ ordering_of (order T.words signed (T.numbers first.now) (T.numbers second.now)) }
 {
-    if n < m {
-        return -1;
+    let k = difference(first, second);
+    if k < first.len().min(second.len()) {
+        return first[k].value(signed).cmp(&second[k].value(signed));
     }
-    if n > m {
-        return 1;
+    first.len().cmp(&second.len())
+}
+
+// The order of two texts, or what refuses them.
+pub fn compare<T: Letter>(first: &[T], second: &[T], signed: bool) -> Result<Ordering, Refusal>
+    ensures { result
+        ≡ order_answer T.words signed (T.numbers first.now) (T.numbers second.now) }
+{
+    accept(first.len(), second.len())?;
+    Ok(ordering(first, second, signed))
+}
+
+// What refuses `lesser` with these arguments.
+pub fn accept_lesser<T: Letter>(first: &[T], second: &[T], _signed: bool) -> Result<(), Refusal>
+    ensures { result ≡ order_refusal (length first.now) (length second.now) }
+{
+    accept(first.len(), second.len())
+}
+
+// The smaller of two texts itself, the first when they are equal. Refused, the empty front of the
+// first.
+pub fn lesser<'a, T: Letter>(first: &'a [T], second: &'a [T], signed: bool) -> &'a [T]
+    ensures { (result.ref_ptr
+        ≡ cond (is_second T.words signed (T.numbers first.now) (T.numbers second.now))
+        second.entry.ref_ptr first.entry.ref_ptr)
+        × (T.numbers result.now
+        ≡ lesser_text T.words signed (T.numbers first.now) (T.numbers second.now)) }
+{
+    match compare(first, second, signed) {
+        Err(_) => &first[..0],
+        Ok(Ordering::Greater) => second,
+        Ok(_) => first,
     }
-    0
 }

@@ -2,20 +2,26 @@
 use Prim.Native.Nat.{ℕ, ◌-◌, ◌≤◌, ◌<◌}
 use mathlib.Core.Path.{◌≡◌, ap, ◌∙◌}
 use mathlib.Core.List.{List, ◌++◌, append_assoc, append-nil}
-use lib.ListN.{length, take, drop, set, replicate, length-append, length-drop}
+use lib.ListN.{length, take, drop, set, replicate, length-append, length-drop, length-take}
 use lib.Seq.{drop-drop, take_at, drop_at}
 use mathlib.Core.Logic.{by_cases}
 use native.Mathlib.Decide.{dec_lt}
 use native.Mathlib.Omega.{arith}
 use borrow.Author.Tests.{lt-ltb, le-ltb}
-use Rattle.decimal.specs.Decimal.{column, refusal_of, written}
-use Rattle.decimal.proofs.Columns.{length_column, refuses, writes, written_refused}
+use Rattle.refusals.specs.declared.Refusal.TheVariants.{Width}
+use Rattle.decimal.specs.Decimal.{column, written}
+use Rattle.decimal.proofs.Columns.{length_column, refuses, writes, written_err}
 use Rattle.decimal.proofs.Pages.{byte_put, tail, past_tail}
 use Rattle.report.specs.Report.{number_line, refusal_line, totals_line}
 
 pub number_put : (n : ℕ) (b : List ℕ) → n < 100000000 → 9 ≤ length b → set (written n 8 b) 8 10 ≡ number_line n ++ drop 9 b
 unfolding number_line
 number_put n b h g = rw (writes n 8 b h (omega arith) (omega arith) (omega arith)) (byte_put (column n 8) b 8 10 (length_column n 8 h (omega arith)) (omega arith))
+
+-- the room that is left after the matches' columns
+pub totals_room : (m : ℕ) (b c : List ℕ) → c ≡ written m 8 b → m < 100000000 → 19 ≤ length b → 10 ≤ length (take (length c - 8) (drop 8 c))
+totals_room m b c e h room =
+    omega (arith, length-take (length c - 8) (drop 8 c), length-drop 8 c, ap length (e ∙ writes m 8 b h (omega arith) (omega arith) (omega arith)), length-append (column m 8) (drop 8 b), length_column m 8 h (omega arith), length-drop 8 b)
 
 -- the totals, in the columns after the matches' and then the line feed; `b` is the page before, `c`
 -- with the matches written
@@ -46,5 +52,4 @@ unfolding refusal_line
 refusal_put n =
     by_cases (dec_lt n 100000000)
     (λ h. number_put n (replicate 9 32) h (omega arith) ∙ rw (lt-ltb n 100000000 h, append-nil))
-    (λ h. let none : refusal_of n 8 9 ≡ 8 = refuses n 8 9 (omega arith) in
-    rw (written_refused n 8 (replicate 9 32) (λ e. omega (arith, none, e)), le-ltb n 100000000 (omega arith)))
+    (λ h. rw (written_err n 8 (replicate 9 32) Width (refuses n 8 9 (omega arith)), le-ltb n 100000000 (omega arith)))

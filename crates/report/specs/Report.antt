@@ -1,13 +1,15 @@
 -- What the program `hits` prints for the bytes that it read (document 01, "The program `hits`"),
 -- made from where the needle stands and from the walk's count. Bytes are numbers; 10 is a line
 -- feed.
-use Rattle.std.specs.Prelude.{ℕ, zero, suc, ◌≡◌, cond, List, [], ◌∷◌, ◌++◌, eqb, ltb, length, take, drop, replicate}
+use Rattle.std.specs.Prelude.{ℕ, suc, ◌≡◌, cond, List, [], ◌∷◌, ◌++◌, eqb, ltb, length, take, drop, replicate, Result, Ok, Err}
+use Rattle.refusals.specs.Numbers.{number_of}
+use Rattle.refusals.specs.declared.Refusal.{Refusal}
+use Rattle.refusals.specs.declared.Refusal.TheVariants.{Input, Feed, Needle}
 use Rattle.unit.specs.Operand.{in_bytes}
 use Rattle.decimal.specs.Decimal.{column}
 use Rattle.search.specs.Positions.{positions}
 use Rattle.search.specs.Walk.{walk_count}
 use Rattle.search.specs.Cursors.{longest_needle}
-use Rattle.report.specs.declared.ReportAnswer.{ReportAnswer}
 
 -- ---- the input
 
@@ -27,12 +29,12 @@ text_of input = drop (suc (feed_at input)) input
 abbrev pub longest_input : ℕ
 longest_input = 65536
 
--- The number that the program refuses an input with, or 0. It tests 7, 6, 3, in this order.
-unfoldable pub refusal_of : List ℕ → ℕ
+-- Whether the program accepts an input, or why it refuses it. It tests 7, 6, 3, in this order.
+unfoldable pub refusal_of : List ℕ → Result (Unit {0}) Refusal
 refusal_of input =
-    cond (ltb longest_input (length input)) 7
-    (cond (eqb (feed_at input) (length input)) 6
-    (cond (ltb longest_needle (length (needle_of input))) 3 0))
+    cond (ltb longest_input (length input)) (Err Input)
+    (cond (eqb (feed_at input) (length input)) (Err Feed)
+    (cond (ltb longest_needle (length (needle_of input))) (Err Needle) (Ok tt)))
 
 -- ---- the lines
 
@@ -70,10 +72,10 @@ listing text needle =
 unfoldable pub refusal_line : ℕ → List ℕ
 refusal_line n = cond (ltb n 100000000) (number_line n) (line (replicate 8 32))
 
--- from the refusal's number: the lines, or the number alone
-abbrev pub printed : ℕ → List ℕ → List ℕ → List ℕ
-printed zero text needle = listing text needle
-printed (suc r) text needle = number_line (suc r)
+-- accepted, the lines; refused, the refusal's number alone
+abbrev pub printed : Result (Unit {0}) Refusal → List ℕ → List ℕ → List ℕ
+printed (Ok u) text needle = listing text needle
+printed (Err r) text needle = number_line (number_of r)
 
 -- All that the program prints: what `report` and `refusal_line` give is that, by `printed_lines`
 -- and `printed_refusal` in proofs/Listings.antt.
@@ -82,19 +84,23 @@ report_of input = printed (refusal_of input) (text_of input) (needle_of input)
 
 -- ---- the call
 
--- from the refusal's number: the lines that the call writes; refused, none
-abbrev pub lines_unless : ℕ → List ℕ → List ℕ → List ℕ
-lines_unless zero text needle = listing text needle
-lines_unless (suc r) text needle = []
+-- the lines that the call writes; refused, none
+abbrev pub lines_unless : Result (Unit {0}) Refusal → List ℕ → List ℕ → List ℕ
+lines_unless (Ok u) text needle = listing text needle
+lines_unless (Err r) text needle = []
 
 unfoldable pub lines_of : List ℕ → List ℕ
 lines_of input = lines_unless (refusal_of input) (text_of input) (needle_of input)
 
--- The call: the refusal's number, or 0; and the lines at the front of the page, the rest of it as
--- before.
-pub record Reported (input before after : List ℕ) (r : ReportAnswer) : Type 0 where
-  pub refusal : r.refusal ≡ refusal_of input
-  pub written : r.written ≡ length (lines_of input)
+-- how many bytes were written, or the refusal
+abbrev pub told : Result (Unit {0}) Refusal → ℕ → Result ℕ Refusal
+told (Ok u) n = Ok n
+told (Err r) n = Err r
+
+-- The call: how many bytes were written, or why it is refused; and the lines at the front of the
+-- page, the rest of it as before.
+pub record Reported (input before after : List ℕ) (r : Result ℕ Refusal) : Type 0 where
+  pub answer : r ≡ told (refusal_of input) (length (lines_of input))
   pub page : after ≡ lines_of input ++ drop (length (lines_of input)) before
 
 -- The longest report, and so the length of a page (`report_fits` in proofs/Listings.antt): an empty

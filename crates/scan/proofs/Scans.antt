@@ -3,30 +3,31 @@
 -- the operand fitted, each of them would stand. Assumes nothing.
 use Prim.Native.Nat.{ℕ, ◌+◌, ◌*◌, ◌-◌, ◌/◌, ◌%◌, ◌≤◌, ◌<◌, min, zero-le}
 use mathlib.Core.Path.{◌≡◌, refl, sym, ap, ◌∙◌}
-use mathlib.Core.Bool.{Bool, true, false, not, cond, ◌&&◌, ◌||◌}
+use mathlib.Core.Bool.{Bool, true, false, not, ◌&&◌, ◌||◌}
 use mathlib.Core.List.{List}
 use lib.Dec.{eqb, leb, ltb}
-use lib.ListN.{length, get_or, take, drop}
+use lib.ListN.{length, get_or, take, drop, length-take, length-drop}
 use lib.Seq.{get_or-take}
-use lib.IntN.{pos}
 use native.Mathlib.Omega.{arith}
 use borrow.Author.Count.{below_more}
 use borrow.Author.Tests.{eq-eqb, eqb-true, le-leb, lt-leb, le-ltb, lt-ltb, ne_eqb, not-false}
 use Rattle.bits.specs.Bits.{least_below, tabulate}
 use Rattle.bits.proofs.Below.{by_order, by_test, or_true, least_at, least_before, least_none, least_passes, least_within, all_each, each_all}
 use Rattle.bits.proofs.Lists.{get_or_tabulate}
-use Rattle.blocks.specs.Blocks.{operand_of}
+use Rattle.blocks.specs.Blocks.{index_at, operand_of, ordered}
 use Rattle.blocks.proofs.Compares.{element_is}
+use Rattle.unit.specs.Elements.{Reading}
+use Rattle.unit.proofs.Elements.{part_is}
 use Rattle.unit.proofs.Unit.{count_most}
 use Rattle.unit.specs.declared.Aggregation.TheVariants.{EqualOrdered}
 use Rattle.unit.specs.Control.{control_of}
-use Rattle.unit.specs.Operand.{count, elements, explicit_length, word_at, words_of}
+use Rattle.unit.specs.Operand.{count, elements, explicit_length}
 use Rattle.unit.specs.Compare.{override, bool_res, int_res1, int_res2}
 use Rattle.unit.specs.Output.{index_of}
 use Rattle.unit.specs.Calls.{PCMPESTRI}
 use Rattle.unit.specs.Modes.{follows, ordered_of}
 use Rattle.scan.specs.Scan.{whole_blocks, index_in, scanned, first_found, scan_of}
-use Rattle.scan.specs.Letters.{ahead, unasked_in, stands_at, starts_at, Passed}
+use Rattle.scan.specs.Letters.{unasked_in, stands_at, starts_at, Passed, Testable}
 
 -- ---- how the scan goes on, and how it ends
 
@@ -92,21 +93,58 @@ module _ (words : Bool) (operand1 : List ℕ) (l : ℕ) (part : List ℕ) where
       (λ h. (h, rw (lt-ltb i (whole_blocks words part) h)))
       (λ h. absurd (other (rw (le-ltb i (whole_blocks words part) h))))
 
--- ---- a compare as code makes it
+-- ---- the scan as code makes it, in blocks of b of a part whose elements are read as numbers
 
--- o is the operand filled from the block of the part from p to e
-pub compared_at : (words : Bool) (operand1 : List ℕ) (l : ℕ) (part : List ℕ) (i p e k : ℕ) (o : List ℕ)
-    → k ≡ (PCMPESTRI operand1 (pos l) o (pos (count words)) (0x0C + cond words 1 0)).index
-    → o ≡ operand_of words (take (e - p) (drop p part))
-    → p ≡ i * count words
-    → e ≡ p + count words
-    → k ≡ index_in words operand1 l part i
-unfolding index_in
-compared_at words operand1 l part i p e k o h f at g =
-    let size : e - p ≡ count words = omega arith in
-    let block : o ≡ operand_of words (take (count words) (drop (i * count words) part)) =
-    f ∙ ap (λ (n : ℕ). operand_of words (take n (drop p part))) size ∙ ap (λ (q : ℕ). operand_of words (take (count words) (drop q part))) at in
-    h ∙ (λ t. (PCMPESTRI operand1 (pos l) (block t) (pos (count words)) (0x0C + cond words 1 0)).index)
+pub block_room : (words : Bool) (i n : ℕ) → i < n / count words → i * count words + count words ≤ n
+block_room true i n h = omega arith
+block_room false i n h = omega arith
+
+module _ {A : Type 0} {numbers : List A → List ℕ} {number : A → ℕ} (r : Reading numbers number) (words : Bool) (operand1 : List ℕ) (l : ℕ) (part : List A) (b : ℕ) (is : b ≡ count words) where
+  blocks_are : length part / b ≡ whole_blocks words (numbers part)
+  blocks_are = rw (is, r.long part) refl
+
+  -- whether there is a block at all
+  pub no_block : length part < b → length part / b ≤ 0
+  no_block h = rw is (none words (length part) (rw is at h))
+    where
+      none : (words : Bool) (n : ℕ) → n < count words → n / count words ≤ 0
+      none true n h = omega arith
+      none false n h = omega arith
+
+  pub a_block : b ≤ length part → 0 < length part / b
+  a_block h = rw is (some words (length part) (rw is at h))
+    where
+      some : (words : Bool) (n : ℕ) → count words ≤ n → 0 < n / count words
+      some true n h = omega arith
+      some false n h = omega arith
+
+  -- one compare; o is the operand filled from block i, the m elements from p on
+  pub compared : (i p m k : ℕ) (o : List ℕ) → p ≡ i * b → m ≡ b → k ≡ index_at words ordered operand1 l o b
+      → o ≡ operand_of words (numbers (take m (drop p part)))
+      → k ≡ index_in words operand1 l (numbers part) i
+  unfolding index_in
+  compared i p m k o at size h f =
+      let block : o ≡ operand_of words (take (count words) (drop (i * count words) (numbers part))) =
+      f ∙ ap (operand_of words) (r.front m (drop p part) ∙ ap (take m) (r.rest p part)) ∙ rw (size, at, is) refl in
+      h ∙ (λ t. index_at words ordered operand1 l (block t) (is t))
+
+  -- it ends there where the index is not b
+  pub ended : (i k : ℕ) → Passed words operand1 l (numbers part) i → i < length part / b
+      → k ≡ index_in words operand1 l (numbers part) i
+      → (k ≡ b → ⊥)
+      → scanned i k ≡ scan_of words operand1 l (numbers part)
+  ended i k c h e other = scan_ended words operand1 l (numbers part) i k c (rw blocks_are at h) e (λ q. other (q ∙ sym is))
+
+  -- or goes on
+  pub more : (i k : ℕ) → Passed words operand1 l (numbers part) i → i < length part / b
+      → k ≡ index_in words operand1 l (numbers part) i
+      → k ≡ b
+      → Passed words operand1 l (numbers part) (i + 1)
+  more i k c h e none = passed_more words operand1 l (numbers part) i c (rw blocks_are at h) (sym e ∙ none ∙ is)
+
+  pub over : (i : ℕ) → Passed words operand1 l (numbers part) i → length part / b ≤ i
+      → scanned i b ≡ scan_of words operand1 l (numbers part)
+  over i c h = ap (scanned i) is ∙ scan_over words operand1 l (numbers part) i c (rw blocks_are at h)
 
 -- ---- the bits of a compare
 
@@ -150,11 +188,12 @@ some_letters words operand1 l part i e =
 -- ---- the blocks that the letters rule out
 
 -- the first letter of an operand is asked for everywhere
-pub first_asked : (u : List Bool) (l : ℕ) → 0 < l → u ≡ tabulate 64 (unasked_in 16 l) → (j : ℕ) → j < 16 → get_or u j false ≡ false
-first_asked u l some rows j h =
+pub first_asked : (words : Bool) (u : List Bool) (l : ℕ) → 0 < l → u ≡ tabulate 64 (unasked_in (count words) l) → (j : ℕ) → j < count words → get_or u j false ≡ false
+first_asked words u l some rows j h =
+    let most = count_most words in
     let row : j / 16 ≡ 0 = omega arith in
     let place : j % 16 ≡ j = omega arith in
-    rw rows (get_or_tabulate 64 j (unasked_in 16 l) false (omega arith) ∙ rw (row, place, lt-leb l 0 some, lt-leb 16 (0 + j) (omega arith)))
+    rw rows (get_or_tabulate 64 j (unasked_in (count words) l) false (omega arith) ∙ rw (row, place, lt-leb l 0 some, lt-leb (count words) (0 + j) (omega arith)))
 
 module _ (words : Bool) (operand1 : List ℕ) (l : ℕ) (part : List ℕ) (i : ℕ) (u : List Bool) (rows : u ≡ tabulate 64 (unasked_in (count words) l)) where
   abbrev text : List ℕ
@@ -202,24 +241,49 @@ module _ (words : Bool) (operand1 : List ℕ) (l : ℕ) (part : List ℕ) (i : �
       absurd (omega arith))
       (λ t. t))
 
-  -- ---- one turn of `pass`
-
   -- the letters read with the elements ahead are the same
   letter_same : (n j k x : ℕ) → j + k < n → stands_at text x u j k ≡ stands_at (take n text) x u j k
   letter_same n j k x h = ap (λ (v : ℕ). eqb v x || get_or u (16 * k + j) false) (sym (get_or-take n text (j + k) 0 h))
 
-  -- A block that leaves room for the elements ahead, from p to e, and in which they stand nowhere
-  -- is passed.
-  pub block_passed : (p e : ℕ) → p ≡ i * count words → e ≡ p + count words + ahead → e ≤ length part → Passed words operand1 l part i → i < whole_blocks words part
-      → ((j : ℕ) → j < count words → starts_at (take (e - p) (drop p part)) letters u j ≡ false)
-      → Passed words operand1 l part (i + 1)
-  block_passed p e at end room c h none =
-      passed_more words operand1 l part i c h
-      (ruled_out
-      (λ j g. let n = e - p in
-      let same : take n (drop p part) ≡ take n text = rw at in
-      rw (letter_same n j 0 (get_or letters 0 0) (omega arith), letter_same n j 1 (get_or letters 1 0) (omega arith), letter_same n j 2 (get_or letters 2 0) (omega arith), letter_same n j 3 (get_or letters 3 0) (omega arith), sym same)
-      (none j g)))
+  -- so it is enough that they stand nowhere in the first n elements from the block on
+  pub ruled_out_ahead : (n : ℕ) → count words + 3 ≤ n → ((j : ℕ) → j < count words → starts_at (take n text) letters u j ≡ false) → index_in words operand1 l part i ≡ count words
+  ruled_out_ahead n room none =
+      ruled_out
+      (λ j g. rw (letter_same n j 0 (get_or letters 0 0) (omega arith), letter_same n j 1 (get_or letters 1 0) (omega arith), letter_same n j 2 (get_or letters 2 0) (omega arith), letter_same n j 3 (get_or letters 3 0) (omega arith))
+      (none j g))
+
+-- ---- one turn of `pass`: a block of b elements with those ahead of it
+
+ahead_room : (words : Bool) (i n : ℕ) → i < (n - min n 3) / count words → i * count words + count words + 3 ≤ n
+ahead_room true i n h = omega arith
+ahead_room false i n h = omega arith
+
+module _ {A : Type 0} {numbers : List A → List ℕ} {number : A → ℕ} (r : Reading numbers number) (words : Bool) (operand1 : List ℕ) (l : ℕ) (part : List A) (u : List Bool) (b i : ℕ) (is : b ≡ count words) (rows : u ≡ tabulate 64 (unasked_in b l)) (m : ℕ) (few : m ≡ min (length part) 3) (h : i < (length part - m) / b) where
+  -- it leaves room for the elements ahead
+  room : i * count words + count words + 3 ≤ length part
+  room = ahead_room words i (length part) (rw (is, few) at h)
+
+  pub testable : 0 < l → Testable words (numbers (take (i * b + b + 3 - i * b) (drop (i * b) part))) u
+  testable some =
+      record {
+        size = r.long (take (i * b + b + 3 - i * b) (drop (i * b) part)) ∙ rw (length-take, length-drop, is) (omega (arith, room));
+        asked = first_asked words u l some (rows ∙ ap (λ (m : ℕ). tabulate 64 (unasked_in m l)) is);
+      }
+
+  -- and where the letters stand nowhere, it is passed
+  pub block_passed : Passed words operand1 l (numbers part) i
+      → ((j : ℕ) → j < count words → starts_at (numbers (take (i * b + b + 3 - i * b) (drop (i * b) part))) (elements words operand1) u j ≡ false)
+      → Passed words operand1 l (numbers part) (i + 1)
+  block_passed c none =
+      let n = i * count words + count words + 3 - i * count words in
+      let same : numbers (take (i * b + b + 3 - i * b) (drop (i * b) part)) ≡ take n (drop (i * count words) (numbers part)) = part_is r (i * b) (i * b + b + 3) part ∙ rw is refl in
+      passed_more words operand1 l (numbers part) i c
+      (rw (r.long part) (within words i (length part) room))
+      (ruled_out_ahead words operand1 l (numbers part) i u (rows ∙ ap (λ (m : ℕ). tabulate 64 (unasked_in m l)) is) n (omega arith) (rw same at none))
+    where
+      within : (words : Bool) (i n : ℕ) → i * count words + count words + 3 ≤ n → i < n / count words
+      within true i n h = omega arith
+      within false i n h = omega arith
 
 -- ---- one turn of `may_start`
 
@@ -237,11 +301,6 @@ first_letter y x u j e =
     or_false : (t : Bool) → (t || false) ≡ t
     or_false true = refl
     or_false false = refl
-
--- letter k of an operand in words, of the first four
-pub letter_is : (operand1 : List ℕ) (k : ℕ) → k ≤ 3 → get_or (words_of operand1) k 0 ≡ word_at operand1 k
-unfolding words_of
-letter_is operand1 k h = get_or_tabulate 8 k (word_at operand1) 0 (omega arith)
 
 -- One place more where nothing is found; s0 to s3 are what the tests of the letters say at j.
 pub place_more : (y xs : List ℕ) (u : List Bool) (found : Bool) (j : ℕ) (s0 s1 s2 s3 : Bool) → s0 ≡ stands_at y (get_or xs 0 0) u j 0

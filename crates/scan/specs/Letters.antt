@@ -2,7 +2,7 @@
 -- them, as far as they are asked for. For the contracts of private functions; a reader of the
 -- public calls needs none of it.
 use Rattle.std.specs.Prelude.{ℕ, ◌+◌, ◌*◌, ◌/◌, ◌%◌, ◌≤◌, ◌<◌, ◌≡◌, Bool, false, ◌&&◌, ◌||◌, List, eqb, leb, get_or, length}
-use Rattle.unit.specs.Operand.{count, in_bytes}
+use Rattle.unit.specs.Operand.{count}
 use Rattle.scan.specs.Scan.{index_in, whole_blocks}
 
 -- How far past a block its letters may stand, and a block with these elements.
@@ -29,10 +29,10 @@ starts_at y xs u j =
     && stands_at y (get_or xs 2 0) u j 2)
     && stands_at y (get_or xs 3 0) u j 3
 
--- a block of bytes with the bytes ahead of it, and rows that ask for the first letter everywhere
-pub record Testable (part : List ℕ) (rows : List Bool) : Type 0 where
-  pub size : length part ≡ reach in_bytes
-  pub asked : (j : ℕ) → j < 16 → get_or rows j false ≡ false
+-- a block with the elements ahead of it, and rows that ask for the first letter everywhere
+pub record Testable (words : Bool) (part : List ℕ) (rows : List Bool) : Type 0 where
+  pub size : length part ≡ reach words
+  pub asked : (j : ℕ) → j < count words → get_or rows j false ≡ false
 
 -- The part has i whole blocks or more, and the compare of each of the first i has index b.
 pub record Passed (words : Bool) (operand1 : List ℕ) (l : ℕ) (part : List ℕ) (i : ℕ) : Type 0 where

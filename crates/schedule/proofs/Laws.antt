@@ -8,7 +8,8 @@ use native.Mathlib.Omega.{arith}
 use lib.Dec.{eqb}
 use lib.ListN.{length, get_or, take, drop, replicate}
 use lib.Seq.{take_at, drop_at}
-use borrow.Author.Tests.{eq-eqb, eqb-false}
+use borrow.Author.Tests.{eqb-false}
+use Rattle.std.specs.Prelude.{Ok}
 use Rattle.bits.specs.Bits.{any_below}
 use Rattle.bits.proofs.Below.{by_test, by_order}
 use Rattle.bits.proofs.Lists.{get_or_tabulate}
@@ -18,7 +19,7 @@ use Rattle.entries.proofs.Order.{clash, tied}
 use Rattle.entries.proofs.Tests.{any_at}
 use Rattle.schedule.specs.Days.{cleared_front, inserted, number_twice, day_of, day_answer}
 use Rattle.schedule.specs.Schedules.{Rearranged, Sorted, Accepted, IsDayOf, IsSchedule}
-use Rattle.schedule.proofs.Answers.{accepted_once, front_long}
+use Rattle.schedule.proofs.Refused.{accepted_once, answer_is, front_long}
 use Rattle.schedule.proofs.Sorting.{Unlike, Apart, apart_from, apart_moved, apart_at, same_day, all_in_order, all_rearranged, in_order_at, empty, length_kept}
 
 none_each : (n : ℕ) (p : ℕ → Bool) → any_below n p ≡ false → (i : ℕ) → i < n → p i ≡ false
@@ -54,10 +55,6 @@ module _ (es : List Entry) (n : ℕ) (z : Accepted es n) where
   abbrev day : List Entry
   day = inserted (cleared_front es n)
 
-  day_is : (day_answer es n).day ≡ day_of es n
-  unfolding day_answer
-  day_is = rw (eq-eqb _ 0 z)
-
   long : length day ≡ n
   long = length_kept (all_rearranged [] (cleared_front es n)) ∙ front_long es n
 
@@ -84,8 +81,8 @@ module _ (es : List Entry) (n : ℕ) (z : Accepted es n) where
     zeros = rest_is;
   }
 
-  is_day : IsDayOf es n (day_answer es n).day
-  is_day = rw day_is day_of_lem
+  is_day : (day_answer es n ≡ Ok (day_of es n)) × IsDayOf es n (day_of es n)
+  is_day = (answer_is es n z, day_of_lem)
 
 one_day : (es fs : List Entry) (n : ℕ) → Accepted es n → Accepted fs n
     → Rearranged (cleared_front es n) (cleared_front fs n) → day_answer es n ≡ day_answer fs n

@@ -1,43 +1,26 @@
--- A list into which a loop puts an element, from the end on. Assumes nothing.
-use Prim.Native.Nat.{ℕ, suc, ◌+◌, ◌-◌, ◌≤◌, ◌<◌}
+-- A list into which an element is put. Assumes nothing.
+use Prim.Native.Nat.{ℕ, ◌+◌, ◌-◌, ◌≤◌, ◌<◌}
 use mathlib.Core.Path.{◌≡◌, sym, ap, ◌∙◌}
-use mathlib.Core.List.{List, [], ◌∷◌, ◌++◌, append_assoc, append-nil}
+use mathlib.Core.List.{List, [], ◌∷◌, ◌++◌, append_assoc}
 use native.Mathlib.Omega.{arith}
 use native.Mathlib.Numerals.{add-one}
-use lib.ListN.{length, get_or, take, drop, set, length-take, drop_of_length-le, get_or-append}
-use lib.Seq.{take-suc, drop-cons, take-set-lt, set_at, get_or-take, length-take-le}
+use lib.ListN.{length, get_or, take, drop, set, length-append, length-take, length-drop}
+use lib.Seq.{paste, take-suc, take_at, set_at, length-take-le}
+use Rattle.std.proofs.lemmas.Slice.{between_is}
 
 module _ {A : Type 0} where
   pub take_more : (l : List A) (i : ℕ) (d : A) → i < length l → take (i + 1) l ≡ take i l ++ get_or l i d ∷ []
   take_more l i d h = rw (add-one) (take-suc l i d h)
 
-  -- l₀ has n elements and a place more; d is read past its end
-  module _ (d : A) (l₀ : List A) (n : ℕ) (h : n < length l₀) where
-    -- the elements from j on have moved up by one
-    abbrev pub Moved : List A → ℕ → Type 0
-    Moved l j = take (n + 1) l ≡ take (j + 1) l₀ ++ drop j (take n l₀)
-
-    pub moved_none : Moved l₀ n
-    moved_none = rw (drop_of_length-le (take n l₀) {i = n} (omega (arith, length-take n l₀)), append-nil)
-
-    -- an element is stored at j
-    pub moved_put : (l : List A) (j : ℕ) (v : A) → j ≤ n → Moved l j → take (n + 1) (set l j v) ≡ take j l₀ ++ v ∷ drop j (take n l₀)
-    moved_put l j v k e =
-        take-set-lt (n + 1) l j v (omega arith)
-        ∙ rw (e, take_more l₀ j d (omega arith), append_assoc) (set_at (take j l₀) (get_or l₀ j d) (drop j (take n l₀)) v j (length-take-le j l₀ (omega arith)))
-
-    moved_read : (l : List A) (j i : ℕ) → i ≤ j → j ≤ n → Moved l j → get_or l i d ≡ get_or l₀ i d
-    moved_read l j i u k e =
-        sym (get_or-take (n + 1) l i d (omega arith)) ∙ ap (λ (m : List A). get_or m i d) e
-        ∙ get_or-append (take (j + 1) l₀) (drop j (take n l₀)) d i (omega (arith, length-take-le (j + 1) l₀ (omega arith)))
-        ∙ get_or-take (j + 1) l₀ i d (omega arith)
-
-    -- one element more has moved
-    pub moved_on : (l : List A) (j : ℕ) → 0 < j → j ≤ n → Moved l j → Moved (set l j (get_or l (j - 1) d)) (j - 1)
-    moved_on l j p k e =
-        let q : j ≡ (j - 1) + 1 = omega arith in
-        let s : j ≡ suc (j - 1) = omega arith in
-        moved_put l j (get_or l (j - 1) d) k e
-        ∙ rw (moved_read l j (j - 1) (omega arith) k e, sym q)
-        (ap (λ (m : List A). take j l₀ ++ m)
-        (rw (drop-cons (take n l₀) (j - 1) d (omega (arith, length-take-le n l₀ (omega arith))), sym s, get_or-take n l₀ (j - 1) d (omega arith))))
+  -- the elements from p up to n move up by one, and v is stored at p
+  pub put_in : (l : List A) (p n : ℕ) (v : A) → p ≤ n → n < length l
+      → take (n + 1) (set (paste l (p + 1) (drop p l) (n - p)) p v) ≡ take p l ++ v ∷ drop p (take n l)
+  put_in l p n v h k =
+      let middle = take (n - p) (drop p l) in
+      let after = drop (p + 1 + (n - p)) l in
+      let long : length (take p l ++ v ∷ middle) ≡ n + 1 =
+      omega (arith, length-append (take p l) (v ∷ middle), length-take p l, length-take (n - p) (drop p l), length-drop p l) in
+      ap (λ (m : List A). take (n + 1) (set (m ++ middle ++ after) p v)) (take_more l p v (omega arith))
+      ∙ simp append_assoc (rw (set_at (take p l) (get_or l p v) (middle ++ after) v p (length-take-le p l (omega arith)))
+      (ap (take (n + 1)) (sym (append_assoc (take p l) (v ∷ middle) after)) ∙ take_at (take p l ++ v ∷ middle) after (n + 1) long
+      ∙ ap (λ (m : List A). take p l ++ v ∷ m) (between_is l p n)))

@@ -1,12 +1,13 @@
 -- The day of some entries (document 02 [5]): the entries within the count, cleared, go in one by
 -- one, each after those that come before it. `Schedules.antt` says, apart from any way of sorting,
 -- what a day must be.
-use Rattle.std.specs.Prelude.{ℕ, Bool, cond, List, [], ◌∷◌, eqb, get_or}
+use Rattle.std.specs.Prelude.{ℕ, Bool, cond, List, [], ◌∷◌, eqb, get_or, Result, Ok, Err}
+use Rattle.refusals.specs.declared.Refusal.{Refusal}
+use Rattle.refusals.specs.declared.Refusal.TheVariants.{Number}
 use Rattle.bits.specs.Bits.{any_below, tabulate}
 use Rattle.entries.specs.declared.Entry.{Entry}
-use Rattle.entries.specs.Entries.{no_entry, cleared_entry, filled, form_refusal, precedes}
+use Rattle.entries.specs.Entries.{no_entry, cleared_entry, filled, form_refusal, if_accepted, precedes}
 use Rattle.schedule.specs.declared.Day.{Day}
-use Rattle.schedule.specs.declared.DayAnswer.{DayAnswer}
 
 -- the first n entries, cleared
 unfoldable pub cleared_front : List Entry → ℕ → List Entry
@@ -32,24 +33,16 @@ unfoldable pub number_twice : List Entry → ℕ → Bool
 number_twice es n =
     any_below n (λ i. any_below i (λ j. eqb (get_or es j no_entry).number (get_or es i no_entry).number))
 
--- the number that refuses these entries, 32, 33 or 34, or 0
-unfoldable pub day_refusal : List Entry → ℕ → ℕ
+-- these entries are refused, with 32, 33 or 34, or accepted
+unfoldable pub day_refusal : List Entry → ℕ → Result (Unit {0}) Refusal
 day_refusal es n =
-    cond (eqb (form_refusal es n) 0) (cond (number_twice es n) 34 0) (form_refusal es n)
+    if_accepted (form_refusal es n) (cond (number_twice es n) (Err Number) (Ok tt))
 
 -- ---- the call
 
 unfoldable pub day_of : List Entry → ℕ → Day
 day_of es n = record { entries = filled (inserted (cleared_front es n)); count = n }
 
--- a day of zeros
-unfoldable pub empty_day : Day
-empty_day = record { entries = filled []; count = 0 }
-
--- refused, the number and a day of zeros
-unfoldable pub day_answer : List Entry → ℕ → DayAnswer
-day_answer es n =
-    record {
-      refusal = day_refusal es n;
-      day = cond (eqb (day_refusal es n) 0) (day_of es n) empty_day;
-    }
+-- the day of entries that are accepted
+unfoldable pub day_answer : List Entry → ℕ → Result Day Refusal
+day_answer es n = if_accepted (day_refusal es n) (Ok (day_of es n))

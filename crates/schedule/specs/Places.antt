@@ -1,7 +1,8 @@
 -- The places of entries in an array, for private contracts.
 use Rattle.std.specs.Prelude.{ℕ, ◌+◌, ◌≤◌, ◌<◌, ◌≡◌, List, [], ◌∷◌, ◌++◌, map, length, get_or, take, drop}
 use Rattle.entries.specs.declared.Entry.{Entry}
-use Rattle.entries.specs.Entries.{no_entry, most_entries}
+use Rattle.entries.specs.Entries.{filled, no_entry, most_entries}
+use Rattle.schedule.specs.declared.Day.{Day}
 use Rattle.schedule.specs.Days.{inserted}
 
 -- numbers that are places of the array
@@ -19,10 +20,10 @@ pub record Placed (es : List Entry) (ks : List ℕ) (n : ℕ) : Type 0 where
   pub places : Places (take n ks)
   pub in_place : entries_at es (take n ks) ≡ inserted (take n es)
 
--- the first n numbers are places, and n entries have room
-pub record Gatherable (ks : List ℕ) (n : ℕ) : Type 0 where
-  pub few : n ≤ most_entries
-  pub places : Places (take n ks)
+-- the first n entries in the order of the day, and empty ones after them
+pub record IsGathered (es : List Entry) (n : ℕ) (d : Day) : Type 0 where
+  pub entries : d.entries ≡ filled (inserted (take n es))
+  pub counted : d.count ≡ n
 
 -- there is room for one place more after n, at p or later
 pub record Room (ks : List ℕ) (p n : ℕ) : Type 0 where

@@ -1,13 +1,15 @@
 -- Worked days of document 02 [5], by hand, in one list that one computed check covers. Every byte
 -- of a day is looked at.
-use Rattle.std.specs.Prelude.{ℕ, ◌-◌, Bool, true, false, ◌&&◌, List, [], ◌∷◌, ◌++◌, T, eqb, length, replicate}
+use Rattle.std.specs.Prelude.{ℕ, ◌-◌, Bool, true, false, ◌&&◌, List, [], ◌∷◌, ◌++◌, T, eqb, length, replicate, Result, Ok, Err}
+use Rattle.refusals.specs.declared.Refusal.{Refusal}
+use Rattle.refusals.specs.Numbers.{number_of}
 use Rattle.bits.specs.Bits.{least_below, tabulate}
 use Rattle.unit.specs.Specimens.{all, same_list}
 use Rattle.orders.specs.Orders.{order, difference}
 use Rattle.entries.specs.declared.Entry.{Entry}
 use Rattle.entries.specs.Entries.{empty_entry, filled, cleared_name, cleared_entry, name_of, precedes, bad_entry, form_refusal}
-use Rattle.schedule.specs.declared.DayAnswer.{DayAnswer}
-use Rattle.schedule.specs.Days.{cleared_front, insert, insert_all, number_twice, day_refusal, day_of, empty_day, day_answer}
+use Rattle.schedule.specs.declared.Day.{Day}
+use Rattle.schedule.specs.Days.{cleared_front, insert, insert_all, number_twice, day_refusal, day_of, day_answer}
 
 -- an entry with 255 in the bytes past its name, and the same with zeros there
 unfoldable pub entered : ℕ → ℕ → List ℕ → Entry
@@ -27,23 +29,27 @@ same_entries (x ∷ xs) (y ∷ ys) =
     eqb x.number y.number && eqb x.minute y.minute && eqb x.length y.length
     && same_list x.name y.name && same_entries xs ys
 
+-- the number of a refusal, or 0
+abbrev pub told : {A : Type 0} → Result A Refusal → ℕ
+told (Ok a) = 0
+told (Err r) = number_of r
+
 -- the answer to these entries and n of a count
-unfoldable pub answered : List Entry → ℕ → DayAnswer
+unfoldable pub answered : List Entry → ℕ → Result Day Refusal
 answered es n = day_answer (filled es) n
+
+-- an answer is a day of n entries, and this one
+abbrev pub is_day : Result Day Refusal → ℕ → List Entry → Bool
+is_day (Ok d) n day = eqb d.count n && same_entries d.entries (filled day)
+is_day (Err r) n day = false
 
 -- these entries, all within the count, make this day
 unfoldable pub makes : List Entry → List Entry → Bool
-makes es day =
-    eqb (answered es (length es)).refusal 0
-    && eqb (answered es (length es)).day.count (length es)
-    && same_entries (answered es (length es)).day.entries (filled day)
+makes es day = is_day (answered es (length es)) (length es) day
 
--- n of these entries are refused with this number, and the day is of zeros
+-- n of these entries are refused with this number
 unfoldable pub refuses : List Entry → ℕ → ℕ → Bool
-refuses es n number =
-    eqb (answered es n).refusal number
-    && eqb (answered es n).day.count 0
-    && same_entries (answered es n).day.entries (filled [])
+refuses es n number = eqb (told (answered es n)) number
 
 unfoldable pub smith : List ℕ
 smith = 83 ∷ 77 ∷ 73 ∷ 84 ∷ 72 ∷ []
@@ -96,7 +102,7 @@ D6 =
 unfoldable pub D7 : Bool
 D7 =
     refuses (entered 3 630 smith ∷ entered 7 1440 smith ∷ []) 2 33
-    && eqb (answered (entered 3 630 smith ∷ entered 7 1440 smith ∷ []) 1).refusal 0
+    && eqb (told (answered (entered 3 630 smith ∷ entered 7 1440 smith ∷ []) 1)) 0
     && refuses (entered 3 1439 (replicate 33 65) ∷ []) 1 33
     && makes (entered 3 1439 (replicate 32 65) ∷ []) (clear 3 1439 (replicate 32 65) ∷ [])
 
@@ -105,12 +111,12 @@ unfoldable pub D8 : Bool
 D8 =
     refuses (entered 7 630 smith ∷ entered 7 545 jones ∷ []) 2 34
     && refuses (entered 7 630 smith ∷ entered 7 1440 jones ∷ []) 2 33
-    && eqb (answered (entered 7 630 smith ∷ entered 7 545 jones ∷ []) 1).refusal 0
+    && eqb (told (answered (entered 7 630 smith ∷ entered 7 545 jones ∷ []) 1)) 0
 
 -- D9: a count of 201, whatever the entries are
 unfoldable pub D9 : Bool
 D9 = refuses (entered 7 1440 smith ∷ entered 7 545 jones ∷ []) 201 32
 
 pub days_hold : T (all (D1 ∷ D2 ∷ D3 ∷ D4 ∷ D5 ∷ D6 ∷ D7 ∷ D8 ∷ D9 ∷ []))
-unfolding least_below tabulate order difference empty_entry filled cleared_name cleared_entry name_of precedes bad_entry form_refusal cleared_front insert insert_all number_twice day_refusal day_of empty_day day_answer entered clear answered makes refuses smith smithe jones D1 D2 D3 D4 D5 D6 D7 D8 D9
+unfolding least_below tabulate order difference empty_entry filled cleared_name cleared_entry name_of precedes bad_entry form_refusal cleared_front insert insert_all number_twice day_refusal day_of day_answer entered clear answered makes refuses smith smithe jones D1 D2 D3 D4 D5 D6 D7 D8 D9
 days_hold = tt

@@ -11,6 +11,9 @@ use lib.Seq.{drop-cons, set_at}
 use native.Mathlib.Omega.{arith}
 use native.Mathlib.Nat.{sub-zero}
 use native.Mathlib.Numerals.{add-one}
+use Rattle.std.specs.Prelude.{Result, Ok, Err}
+use Rattle.refusals.specs.declared.Refusal.{Refusal}
+use Rattle.refusals.specs.declared.Refusal.TheVariants.{Compares}
 use Rattle.search.specs.declared.Cursor.{Cursor}
 use Rattle.search.specs.declared.Next.{Next}
 use Rattle.search.specs.declared.Next.TheVariants.{Match, Absent, Refused}
@@ -18,6 +21,7 @@ use Rattle.search.specs.declared.End.{End}
 use Rattle.search.specs.declared.End.TheVariants.{Full, Stopped}
 use Rattle.search.specs.declared.Filled.{Filled}
 use Rattle.search.specs.declared.Stepped.{Stepped}
+use Rattle.search.specs.declared.Stepped.TheVariants.{Found}
 use Rattle.search.specs.declared.Walked.{Walked}
 use Rattle.search.specs.Walk.{Ended, match_at, nowhere, walk}
 use Rattle.search.specs.Cursors.{accepted, answered, front, moved, most_compares, refusal, next_match}
@@ -27,7 +31,7 @@ use Rattle.search.specs.Moves.{Led, Walks, ended, end_of, filled_by, total}
 use Rattle.search.proofs.Walks.{WalkOk, walk_ok}
 use Rattle.search.proofs.Lists.{next_refused}
 use Rattle.search.proofs.Refusals.{accepted_is, compares_alone}
-use Rattle.search.proofs.Turns.{next_ended, total_past, turn_found, turn_on}
+use Rattle.search.proofs.Turns.{next_ended, total_past, turn_found}
 
 -- positions in front of a fill
 abbrev pub in_front : List ℕ → Fill → Fill
@@ -41,7 +45,7 @@ pub record Going (words : Bool) (text needle list : List ℕ) (c from at : Curso
   pub below : k < length list
   pub list_is : list' ≡ written found list
   pub rest : in_front found (fill_from (next_match words text needle) (length list - k) from) ≡ fill_from (next_match words text needle) (length list) c
-  pub accepted : refusal (length text) (length needle) from ≡ 0
+  pub accepted : refusal (length text) (length needle) from ≡ Ok tt
   pub cut : from.stop ≡ length text
   pub near : at.position ≤ length text + 1
   pub same : total words text needle at ≡ total words text needle from
@@ -75,7 +79,7 @@ module _ (words : Bool) (text needle list : List ℕ) (c : Cursor) where
       }
 
   -- it begins
-  pub going_start : refusal (length text) (length needle) c ≡ 0 → c.stop ≡ length text → 0 < length list → Going words text needle list c c c 0 list
+  pub going_start : refusal (length text) (length needle) c ≡ Ok tt → c.stop ≡ length text → 0 < length list → Going words text needle list c c c 0 list
   going_start a cut h = record {
     found = [];
     size = refl;
@@ -104,21 +108,6 @@ module _ {words : Bool} {text needle list : List ℕ} {c from at : Cursor} {k : 
   pub put_length : (p : ℕ) → length (set list' k p) ≡ length list
   put_length p = length-set list' k p ∙ going_length
 
-  -- a step finds nothing
-  pub going_on : (r : Stepped) → Led words text needle at r → r.found ≡ false → Going words text needle list c from r.cursor k list'
-  going_on r led t = record {
-    found = g.found;
-    size = g.size;
-    below = g.below;
-    list_is = g.list_is;
-    rest = g.rest;
-    accepted = g.accepted;
-    cut = g.cut;
-    near = omega (arith, led.near);
-    same = turn_on words text needle from at r led g.same t;
-    one = g.one;
-  }
-
   -- the fill of the places left is one place and the others
   places : length list - k ≡ suc (length list - (k + 1))
   places = omega (arith, g.below)
@@ -131,16 +120,16 @@ module _ {words : Bool} {text needle list : List ℕ} {c from at : Cursor} {k : 
       let rest = rw (places, ← is) at g.rest in
       rw e (ends words text needle list c g.found k list' (ended from (nowhere at.compares)) g.size g.list_is rest (λ h. is ∙ ap next (g.one h)))
 
-  -- a step finds the needle; the cursor after it is d
-  module _ (r : Stepped) (led : Led words text needle at r) (t : r.found ≡ true) where
+  -- a step finds the needle at the cursor e; the one to go on from is d
+  module _ (r : Stepped) (led : Led words text needle at r) (e : Cursor) (t : r ≡ Found e) where
     abbrev p : ℕ
-    p = r.cursor.position
+    p = e.position
 
     abbrev d : Cursor
-    d = moved from (p + 1) r.cursor.compares false
+    d = moved from (p + 1) e.compares false
 
     match_is : Match p d ≡ next from
-    match_is = turn_found words text needle from at r led g.same t ∙ next_ended words text needle from g.accepted g.cut
+    match_is = turn_found words text needle from at r led g.same e t ∙ next_ended words text needle from g.accepted g.cut
 
     match_rest : in_front (g.found ++ p ∷ []) (fill_from next (length list - (k + 1)) d) ≡ fill_from next (length list) c
     match_rest = rw append_assoc (rw (places, ← match_is) at g.rest)
@@ -152,11 +141,11 @@ module _ {words : Bool} {text needle list : List ℕ} {c from at : Cursor} {k : 
     match_list = ap (λ (l : List ℕ). set l k p) g.list_is ∙ put_behind g.found list p k g.size g.below
 
     -- the list is full
-    pub match_full : k + 1 ≡ length list → (last : Next) → last ≡ ended from (match_at p r.cursor.compares)
+    pub match_full : k + 1 ≡ length list → (last : Next) → last ≡ ended from (match_at p e.compares)
         → Walks next c list (record { count = k + 1; last = last }) (set list' k p)
-    match_full full last e =
+    match_full full last is =
         let none : length list - (k + 1) ≡ 0 = omega arith in
-        rw e (ends words text needle list c (g.found ++ p ∷ []) (k + 1) (set list' k p) (Match p d) match_size match_list (rw none at match_rest) (λ h. match_is ∙ ap next (g.one h)))
+        rw is (ends words text needle list c (g.found ++ p ∷ []) (k + 1) (set list' k p) (Match p d) match_size match_list (rw none at match_rest) (λ h. match_is ∙ ap next (g.one h)))
 
     -- there is a place left, and a is the cursor of the next match
     module _ (more : k + 1 < length list) (a : Cursor) (is : a ≡ d) where
@@ -164,7 +153,7 @@ module _ {words : Bool} {text needle list : List ℕ} {c from at : Cursor} {k : 
       more_rest = rw is match_rest
 
       -- it is accepted
-      pub match_on : refusal (length text) (length needle) a ≡ 0 → Going words text needle list c a a (k + 1) (set list' k p)
+      pub match_on : refusal (length text) (length needle) a ≡ Ok tt → Going words text needle list c a a (k + 1) (set list' k p)
       match_on z = record {
         found = g.found ++ p ∷ [];
         size = match_size;
@@ -179,12 +168,12 @@ module _ {words : Bool} {text needle list : List ℕ} {c from at : Cursor} {k : 
       }
 
       -- it is refused
-      pub match_stopped : (number : ℕ) → refusal (length text) (length needle) a ≡ number → 0 < number
-          → Walks next c list (record { count = k + 1; last = Refused number a }) (set list' k p)
-      match_stopped number e h =
+      pub match_stopped : (by : Refusal) → refusal (length text) (length needle) a ≡ Err by
+          → Walks next c list (record { count = k + 1; last = Refused by a }) (set list' k p)
+      match_stopped by is_not =
           let left : length list - (k + 1) ≡ suc (length list - (k + 2)) = omega arith in
-          ends words text needle list c (g.found ++ p ∷ []) (k + 1) (set list' k p) (Refused number a) match_size match_list
-          (rw (left, next_refused words text needle a number e h) at more_rest)
+          ends words text needle list c (g.found ++ p ∷ []) (k + 1) (set list' k p) (Refused by a) match_size match_list
+          (rw (left, next_refused words text needle a by is_not) at more_rest)
           (λ w. absurd (omega arith))
 
 -- ---- the call
@@ -195,14 +184,13 @@ module _ (words : Bool) (text needle : List ℕ) (c : Cursor) where
   unwritten k e list r is h = rw (is, h) (record { answer = refl; list_after = refl })
 
   -- a refused call
-  pub fill_refused : (k number : ℕ) → refusal (length text) (length needle) c ≡ number → 0 < number → fill words text needle k c ≡ fill_of [] c (Stopped number)
+  pub fill_refused : (k : ℕ) (r : Refusal) → refusal (length text) (length needle) c ≡ Err r → fill words text needle k c ≡ fill_of [] c (Stopped r)
   unfolding fill
-  fill_refused zero zero e h = absurd (omega arith)
-  fill_refused zero (suc number) e h = rw e
-  fill_refused (suc k) number e h = rw (next_refused words text needle c number e h)
+  fill_refused zero r e = rw e
+  fill_refused (suc k) r e = rw (next_refused words text needle c r e)
 
   -- an empty list and a good cursor
-  pub fill_empty : (k : ℕ) → k ≡ 0 → refusal (length text) (length needle) c ≡ 0 → fill words text needle k c ≡ fill_of [] c Full
+  pub fill_empty : (k : ℕ) → k ≡ 0 → refusal (length text) (length needle) c ≡ Ok tt → fill words text needle k c ≡ fill_of [] c Full
   unfolding fill
   fill_empty zero z e = rw e
   fill_empty (suc k) z e = absurd (omega arith)
@@ -227,62 +215,62 @@ module _ (words : Bool) (text needle : List ℕ) where
   abbrev next_of : Cursor → Next
   next_of = next_match words text needle
 
-  -- no number but 23 refuses this cursor
+  -- nothing but number 23 refuses this cursor
   abbrev Only23 : Cursor → Type 0
-  Only23 c = (number : ℕ) → refusal (length text) (length needle) c ≡ number → 0 < number → number ≡ 23
+  Only23 c = (r : Refusal) → refusal (length text) (length needle) c ≡ Err r → r ≡ Compares
 
   -- a match leaves such a cursor, and where it is asked for, no other number is given
   abbrev Says23 : Bool → Next → Type 0
   Says23 b (Match p d) = Only23 d
   Says23 b (Absent d) = Unit {0}
-  Says23 true (Refused number d) = number ≡ 23
-  Says23 false (Refused number d) = Unit {0}
+  Says23 true (Refused r d) = r ≡ Compares
+  Says23 false (Refused r d) = Unit {0}
 
-  ended_23 : (b : Bool) (c : Cursor) → refusal (length text) (length needle) c ≡ 0 → (e : Ended) → WalkOk words (front text c) needle c.position e → Says23 b (accepted c e)
+  ended_23 : (b : Bool) (c : Cursor) → refusal (length text) (length needle) c ≡ Ok tt → (e : Ended) → WalkOk words (front text c) needle c.position e → Says23 b (accepted c e)
   ended_23 b c z (nowhere k) ok = tt
-  ended_23 b c z (match_at q k) ok = λ number e h.
+  ended_23 b c z (match_at q k) ok = λ r e.
       let known = accepted_is (length text) (length needle) c z in
       let d = moved c (q + 1) (c.compares + k) false in
       let alone = compares_alone (length text) (length needle) d known.text known.needle refl known.stop (omega (arith, ok.0, length-take c.stop text)) in
-      chosen (ltb most_compares d.compares) number (sym alone ∙ e) h
+      chosen (ltb most_compares d.compares) r (sym alone ∙ e)
     where
-      chosen : (t : Bool) (number : ℕ) → cond t 23 0 ≡ number → 0 < number → number ≡ 23
-      chosen true number f h = sym f
-      chosen false number f h = absurd (omega arith)
+      chosen : (t : Bool) (r : Refusal) → cond t (Err Compares) (Ok (tt {0})) ≡ Err r → r ≡ Compares
+      chosen true r f = cc
+      chosen false r f = cc
 
   says_23 : (b : Bool) (c : Cursor) → (b ≡ true → Only23 c) → Says23 b (next_of c)
   unfolding next_match
-  says_23 b c only = by_number_lem b only (refusal (length text) (length needle) c) refl
+  says_23 b c only = by_refusal b only (refusal (length text) (length needle) c) refl
     where
-      by_number_lem : (t : Bool) → (t ≡ true → Only23 c) → (r : ℕ) → refusal (length text) (length needle) c ≡ r → Says23 t (answered r c (walk words (front text c) needle))
-      by_number_lem t o zero z = ended_23 t c z (walk words (front text c) needle c.position) (walk_ok words (front text c) needle c.position)
-      by_number_lem true o (suc r) z = o refl (suc r) z (omega arith)
-      by_number_lem false o (suc r) z = tt
+      by_refusal : (t : Bool) → (t ≡ true → Only23 c) → (r : Result (Unit {0}) Refusal) → refusal (length text) (length needle) c ≡ r → Says23 t (answered r c (walk words (front text c) needle))
+      by_refusal t o (Ok u) z = ended_23 t c z (walk words (front text c) needle c.position) (walk_ok words (front text c) needle c.position)
+      by_refusal true o (Err r) z = o refl r z
+      by_refusal false o (Err r) z = tt
 
   -- from such a cursor on, only 23 stops
-  later_23 : (k : ℕ) (c : Cursor) (number : ℕ) → Only23 c → (fill_from next_of k c).end ≡ Stopped number → number ≡ 23
-  later_23 zero c number only e = cc
-  later_23 (suc k) c number only e = by_answer (next_of c) (says_23 true c (λ _. only)) (λ d o f. later_23 k d number o f) e
+  later_23 : (k : ℕ) (c : Cursor) (by : Refusal) → Only23 c → (fill_from next_of k c).end ≡ Stopped by → by ≡ Compares
+  later_23 zero c by only e = cc
+  later_23 (suc k) c by only e = by_answer (next_of c) (says_23 true c (λ _. only)) (λ d o f. later_23 k d by o f) e
     where
-      by_answer : (x : Next) → Says23 true x → ((d : Cursor) → Only23 d → (fill_from next_of k d).end ≡ Stopped number → number ≡ 23)
-          → (after_next (fill_from next_of k) x).end ≡ Stopped number → number ≡ 23
+      by_answer : (x : Next) → Says23 true x → ((d : Cursor) → Only23 d → (fill_from next_of k d).end ≡ Stopped by → by ≡ Compares)
+          → (after_next (fill_from next_of k) x).end ≡ Stopped by → by ≡ Compares
       by_answer (Match p d) o rest f = rest d o f
       by_answer (Absent d) o rest f = cc
       by_answer (Refused r d) o rest f = cc
 
-  -- A number that stops a fill after some positions is 23.
-  pub stopped_by_23 : (k : ℕ) (c : Cursor) (number : ℕ) → (fill words text needle k c).end ≡ Stopped number → 0 < length (fill words text needle k c).positions → number ≡ 23
+  -- What stops a fill after some positions is number 23.
+  pub stopped_by_23 : (k : ℕ) (c : Cursor) (by : Refusal) → (fill words text needle k c).end ≡ Stopped by → 0 < length (fill words text needle k c).positions → by ≡ Compares
   unfolding fill
-  stopped_by_23 zero c number e h = empty (refusal (length text) (length needle) c) h
+  stopped_by_23 zero c by e h = empty (refusal (length text) (length needle) c) h
     where
-      empty : (r : ℕ) → 0 < length (empty_list c r).positions → number ≡ 23
-      empty zero g = absurd (omega arith)
-      empty (suc r) g = absurd (omega arith)
-  stopped_by_23 (suc k) c number e h = by_answer (next_of c) (says_23 false c (λ f. absurd (let z : ◌≡◌ {A = ℕ} 0 1 = cc in omega arith))) e h
+      empty : (r : Result (Unit {0}) Refusal) → 0 < length (empty_list c r).positions → by ≡ Compares
+      empty (Ok u) g = absurd (omega arith)
+      empty (Err r) g = absurd (omega arith)
+  stopped_by_23 (suc k) c by e h = by_answer (next_of c) (says_23 false c (λ f. cc)) e h
     where
-      by_answer : (x : Next) → Says23 false x → (after_next (fill_from next_of k) x).end ≡ Stopped number
-          → 0 < length (after_next (fill_from next_of k) x).positions → number ≡ 23
-      by_answer (Match p d) o f g = later_23 k d number o f
+      by_answer : (x : Next) → Says23 false x → (after_next (fill_from next_of k) x).end ≡ Stopped by
+          → 0 < length (after_next (fill_from next_of k) x).positions → by ≡ Compares
+      by_answer (Match p d) o f g = later_23 k d by o f
       by_answer (Absent d) o f g = absurd (omega arith)
       by_answer (Refused r d) o f g = absurd (omega arith)
 

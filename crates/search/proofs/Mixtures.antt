@@ -11,6 +11,9 @@ use lib.Seq.{take-length}
 use native.Mathlib.Omega.{arith}
 use native.Mathlib.Nat.{suc-add, zero-add}
 use native.Mathlib.Numerals.{one-add}
+use Rattle.std.specs.Prelude.{Result, Ok, Err}
+use Rattle.refusals.specs.declared.Refusal.{Refusal}
+use Rattle.refusals.specs.declared.Refusal.TheVariants.{Exhausted}
 use Rattle.search.specs.declared.Cursor.{Cursor}
 use Rattle.search.specs.declared.Next.{Next}
 use Rattle.search.specs.declared.Next.TheVariants.{Match, Absent, Refused}
@@ -30,7 +33,7 @@ module _ (words : Bool) (text needle : List ℕ) where
   -- ---- a cursor that every next match refuses
 
   -- n next matches from a refused cursor find nothing and leave it
-  refused_on : (n r : ℕ) (c : Cursor) → N c ≡ Refused r c → (found_in (said_by words text needle n c) ≡ []) × (cursor_after words text needle n c ≡ c)
+  refused_on : (n : ℕ) (r : Refusal) (c : Cursor) → N c ≡ Refused r c → (found_in (said_by words text needle n c) ≡ []) × (cursor_after words text needle n c ≡ c)
   refused_on zero r c e = (refl, refl)
   refused_on (suc n) r c e =
       let s = refused_on n r c e in
@@ -38,8 +41,8 @@ module _ (words : Bool) (text needle : List ℕ) where
 
   -- from the cursor c on n next matches find nothing and leave it
   pub record Settled (c : Cursor) : Type 0 where
-    pub number : ℕ
-    pub refuses : N c ≡ Refused number c
+    pub by : Refusal
+    pub refuses : N c ≡ Refused by c
 
   -- an answer that is no match leaves such a cursor
   abbrev Leaves : Next → Type 0
@@ -49,18 +52,18 @@ module _ (words : Bool) (text needle : List ℕ) where
 
   next_leaves : (c : Cursor) → Leaves (N c)
   unfolding next_match
-  next_leaves c = by_number_lem (refusal (length text) (length needle) c) refl
+  next_leaves c = by_refusal (refusal (length text) (length needle) c) refl
     where
-      by_end : refusal (length text) (length needle) c ≡ 0 → (e : Ended) → Leaves (accepted c e)
+      by_end : refusal (length text) (length needle) c ≡ Ok tt → (e : Ended) → Leaves (accepted c e)
       by_end z (match_at p k) = tt
       by_end z (nowhere k) =
           let known = accepted_is (length text) (length needle) c z in
           let after = cursor_of (accepted c (nowhere k)) in
-          record { number = 21; refuses = next_refused words text needle after 21 (sym (exhausted_refused (length text) (length needle) after known.text known.needle refl)) (omega arith) }
+          record { by = Exhausted; refuses = next_refused words text needle after Exhausted (exhausted_refused (length text) (length needle) after known.text known.needle refl) }
 
-      by_number_lem : (r : ℕ) → refusal (length text) (length needle) c ≡ r → Leaves (answered r c (walk words (front text c) needle))
-      by_number_lem zero z = by_end z (walk words (front text c) needle c.position)
-      by_number_lem (suc r) z = record { number = suc r; refuses = next_refused words text needle c (suc r) z (omega arith) }
+      by_refusal : (r : Result (Unit {0}) Refusal) → refusal (length text) (length needle) c ≡ r → Leaves (answered r c (walk words (front text c) needle))
+      by_refusal (Ok u) z = by_end z (walk words (front text c) needle c.position)
+      by_refusal (Err r) z = record { by = r; refuses = next_refused words text needle c r z }
 
   -- ---- a fill, and n next matches after it
 
@@ -72,8 +75,8 @@ module _ (words : Bool) (text needle : List ℕ) where
   -- from a settled cursor on, any two numbers of next matches are alike
   settled_joined : (n m : ℕ) (c : Cursor) → Settled c → Joined [] c n m c
   settled_joined n m c s =
-      let a = refused_on n s.number c s.refuses in
-      let b = refused_on m s.number c s.refuses in
+      let a = refused_on n s.by c s.refuses in
+      let b = refused_on m s.by c s.refuses in
       record { gives = a.0 ∙ sym b.0; leaves = a.1 ∙ sym b.1 }
 
   from_joined : (k n : ℕ) (c : Cursor) → Joined (fill_from N k c).positions (fill_from N k c).cursor n (k + n) c
@@ -91,9 +94,9 @@ module _ (words : Bool) (text needle : List ℕ) where
       by_answer (Refused r d) h rest = let s = settled_joined n (k + n) d h in (s.gives, s.leaves)
 
   -- an empty list finds nothing and leaves the cursor, refused or not
-  empty_leaves : (r : ℕ) (c : Cursor) → ((empty_list c r).positions ≡ []) × ((empty_list c r).cursor ≡ c)
-  empty_leaves zero c = (refl, refl)
-  empty_leaves (suc r) c = (refl, refl)
+  empty_leaves : (r : Result (Unit {0}) Refusal) (c : Cursor) → ((empty_list c r).positions ≡ []) × ((empty_list c r).cursor ≡ c)
+  empty_leaves (Ok u) c = (refl, refl)
+  empty_leaves (Err r) c = (refl, refl)
 
   fill_joined : (k n : ℕ) (c : Cursor) → Joined (fill words text needle k c).positions (fill words text needle k c).cursor n (k + n) c
   unfolding fill

@@ -4,6 +4,7 @@ use Prim.Native.Nat.{ℕ, zero, suc, ◌+◌, ◌*◌, ◌-◌, ◌/◌, ◌≤�
 use mathlib.Core.Path.{◌≡◌, refl, sym, ap, ◌∙◌}
 use mathlib.Core.Bool.{Bool, true, false, cond}
 use mathlib.Core.List.{List}
+use lib.Dec.{eqb}
 use lib.ListN.{length, take, drop, length-take, length-drop}
 use lib.Seq.{drop-drop}
 use lib.IntN.{pos}
@@ -13,17 +14,19 @@ use native.Mathlib.Numerals.{add-one}
 use Rattle.bits.proofs.Below.{by_order}
 use Rattle.blocks.specs.Blocks.{longest_text, operand_of}
 use Rattle.blocks.proofs.Compares.{part_size}
+use Rattle.unit.specs.Elements.{Reading}
 use Rattle.unit.specs.Operand.{count}
+use Rattle.unit.proofs.Elements.{part_is as numbers_of_part}
 use Rattle.unit.specs.Calls.{PCMPESTRI}
 use Rattle.scan.specs.declared.Scanned.{Scanned}
 use Rattle.scan.specs.Scan.{index_in, scan_of}
-use Rattle.scan.proofs.Scans.{scan_index, scan_none, scan_passed}
+use Rattle.scan.proofs.Scans.{block_room, scan_index, scan_none, scan_passed}
 use Rattle.search.specs.declared.Cursor.{Cursor}
 use Rattle.search.specs.declared.Stepped.{Stepped}
 use Rattle.search.specs.Cursors.{moved}
-use Rattle.search.specs.Moves.{Led, Ready, Room, later_at, many_compares, rested, stepped_by, total}
+use Rattle.search.specs.Moves.{Led, Ready, Room, later_at, many_compares, missed_by, reached, rested, total}
 use Rattle.search.specs.Walk.{ordered, first_index, Ended, match_at, nowhere, plus, walk}
-use Rattle.search.proofs.Pieces.{count_some, part_of}
+use Rattle.search.proofs.Pieces.{count_some, part_of, some_left}
 use Rattle.search.proofs.Steps.{first_called, first_most, step_fits, step_index, step_none}
 use Rattle.search.proofs.Walks.{plus_plus, walk_onward}
 use Rattle.search.proofs.Turns.{led_on, led_onward, led_rested}
@@ -36,10 +39,6 @@ plus_none (nowhere n) = rw (zero-add n)
 blocks_end : (words : Bool) (n i : ℕ) → i ≤ n / count words → i * count words ≤ n
 blocks_end true n i h = omega arith
 blocks_end false n i h = omega arith
-
-block_end : (words : Bool) (n i : ℕ) → i < n / count words → i * count words + count words ≤ n
-block_end true n i h = omega arith
-block_end false n i h = omega arith
 
 blocks_some : (words : Bool) (n i : ℕ) → count words ≤ n → i ≡ n / count words → 0 < i * count words
 blocks_some true n i h e = omega arith
@@ -56,6 +55,26 @@ pub record Scanning (words : Bool) (text needle first : List ℕ) (l : ℕ) (c :
   pub end : e ≡ length text - (length needle - l)
   pub whole : count words ≤ e - c.position
   pub is : s ≡ scan_of words first l (take (e - c.position) (drop c.position text))
+
+-- the scan that code makes of a text whose elements are read as numbers
+pub scanning : {A : Type 0} {numbers : List A → List ℕ} {number : A → ℕ} (r : Reading numbers number) {words : Bool} (text needle : List A) {first : List ℕ} {l b : ℕ} {c : Cursor} {s : Scanned}
+    → Ready words (numbers text) (numbers needle) first l c
+    → eqb (length needle) 0 ≡ false
+    → b ≡ count words
+    → b ≤ length text - (length needle - l) - c.position
+    → s ≡ scan_of words first l (numbers (take (length text - (length needle - l) - c.position) (drop c.position text)))
+    → Scanning words (numbers text) (numbers needle) first l c (length text - (length needle - l)) s
+scanning r text needle {l = l} {c = c} ready rest wide whole is =
+    let some = some_left rest in
+    let long = r.long text in
+    let short = r.long needle in
+    let e = length text - (length needle - l) in record {
+      ready = ready;
+      some = omega arith;
+      end = omega arith;
+      whole = omega arith;
+      is = is ∙ ap (scan_of _ _ l) (numbers_of_part r c.position e text);
+    }
 
 module _ {words : Bool} {text needle first : List ℕ} {l : ℕ} {c : Cursor} {e : ℕ} {s : Scanned} (scan : Scanning words text needle first l c e s) where
   abbrev b : ℕ
@@ -99,15 +118,26 @@ module _ {words : Bool} {text needle first : List ℕ} {l : ℕ} {c : Cursor} {e
   pub blocks_within : p + b * s.blocks ≤ length text
   blocks_within = omega (arith, blocks_end words (e - p) s.blocks within, mul_comm s.blocks b, scan.end, scan.ready.room)
 
-  blocks_few : (words : Bool) (k : ℕ) → k ≤ count words * k
-  blocks_few true k = omega arith
-  blocks_few false k = omega arith
+  -- the same where b is at hand
+  pub blocks_in : (b : ℕ) → b ≡ count words → p + b * s.blocks ≤ length text
+  blocks_in b wide = rw wide blocks_within
+
+  pub past_is : (b : ℕ) (a : Cursor) → b ≡ count words → a ≡ moved c (p + b * s.blocks) (c.compares + s.blocks) false → a ≡ moved c (p + count words * s.blocks) (c.compares + s.blocks) false
+  past_is b a wide is = is ∙ rw wide refl
+
+  -- there are no more of them than elements
+  pub blocks_few : s.blocks ≤ length text
+  blocks_few = omega (arith, fewer words s.blocks, blocks_within)
+    where
+      fewer : (words : Bool) (k : ℕ) → k ≤ count words * k
+      fewer true k = omega arith
+      fewer false k = omega arith
 
   -- past the first i blocks of the scan, each with one compare
   walk_past_blocks : (i : ℕ) → i ≤ s.blocks → walk words text needle p ≡ plus i (walk words text needle (p + i * b))
   walk_past_blocks zero h = rw (zero-mul b, add-zero p) (sym (plus_none (walk words text needle p)))
   walk_past_blocks (suc i) h =
-      let fits = block_end words (e - p) i (omega (arith, within)) in
+      let fits = block_room words i (e - p) (omega (arith, within)) in
       let none : first_index words text needle (p + i * b) ≡ b =
       sym (index_first i fits) ∙ (scan_passed words first l part).each i (rw scan.is at h) in
       let room = room_at i fits in
@@ -129,7 +159,7 @@ module _ {words : Bool} {text needle first : List ℕ} {l : ℕ} {c : Cursor} {e
     pub past_few : a.compares ≤ many_compares + longest_text
     past_few =
         let counted : a.compares ≡ c.compares + s.blocks = ap (λ (x : Cursor). x.compares) is_past in
-        omega (arith, blocks_few words s.blocks, blocks_within, scan.ready.searchable.small, scan.ready.few)
+        omega (arith, blocks_few, scan.ready.searchable.small, scan.ready.few)
 
     past_same : total words text needle a ≡ total words text needle c
     past_same =
@@ -143,7 +173,7 @@ module _ {words : Bool} {text needle first : List ℕ} {l : ℕ} {c : Cursor} {e
       there = let t = scan_index words first l part (rw scan.is at other) in (rw (size, ← scan.is) at t.0, rw (← scan.is) at t.1)
 
       block_there : s.blocks * b + b ≤ e - p
-      block_there = block_end words (e - p) s.blocks there.0
+      block_there = block_room words s.blocks (e - p) there.0
 
       past_room : a.position + length needle ≤ length text
       past_room = omega (arith, room_at s.blocks block_there, past_at)
@@ -159,7 +189,7 @@ module _ {words : Bool} {text needle first : List ℕ} {l : ℕ} {c : Cursor} {e
           by_order s.index b (λ h. h) (λ h. absurd (other (omega (arith, index_there, first_most words text needle a.position some past_room))))
 
       -- an index from 1 to b - 1
-      pub led_place : (r : Stepped) → 0 < s.index → r ≡ stepped_by a false s.index (a.compares + 1) → Led words text needle c r
+      pub led_place : (r : Stepped) → 0 < s.index → r ≡ missed_by a s.index (a.compares + 1) → Led words text needle c r
       led_place r more h =
           led_on words text needle c a r past_same (omega (arith, past_at))
           (rw h
@@ -175,12 +205,12 @@ module _ {words : Bool} {text needle first : List ℕ} {l : ℕ} {c : Cursor} {e
         (step_fits words text needle a.position some (past_room other) (index_there other ∙ i))))
 
     -- no block is left
-    pub led_over : (r : Stepped) → s.index ≡ b → r ≡ stepped_by a false 0 a.compares → Led words text needle c r
+    pub led_over : (r : Stepped) → s.index ≡ b → r ≡ missed_by a 0 a.compares → Led words text needle c r
     led_over r i h =
         let all : s.blocks ≡ (e - p) / b = rw (sym size, scan.is) (scan_none words first l part (rw scan.is at i)) in
         rw h record {
           same = rw (add-zero a.position) past_same;
-          onwards = λ _. omega (arith, blocks_some words (e - p) s.blocks scan.whole all, past_at);
+          onwards = λ d f. omega (arith, ap (λ (s : Stepped). (reached s).position) f, blocks_some words (e - p) s.blocks scan.whole all, past_at);
           ahead = omega (arith, past_at);
           near = omega (arith, past_at, mul_comm s.blocks b, blocks_within);
         }

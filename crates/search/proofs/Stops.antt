@@ -15,6 +15,8 @@ use native.Mathlib.Nat.{not-suc-le-zero, le_of_suc-le-suc}
 use borrow.Author.Tests.{leb-true, le-leb}
 use Rattle.bits.proofs.Below.{by_test}
 use Rattle.unit.specs.Operand.{count}
+use Rattle.std.specs.Prelude.{Result, Ok, Err}
+use Rattle.refusals.specs.declared.Refusal.{Refusal}
 use Rattle.search.specs.declared.Cursor.{Cursor}
 use Rattle.search.specs.declared.Next.{Next}
 use Rattle.search.specs.declared.Next.TheVariants.{Match, Absent, Refused}
@@ -58,15 +60,15 @@ module _ (words : Bool) (text needle : List ℕ) where
 
   pub next_kept : (c : Cursor) → (cursor_of (N c)).stop ≡ c.stop
   unfolding next_match
-  next_kept c = by_number_lem (refusal (length text) (length needle) c)
+  next_kept c = by_refusal (refusal (length text) (length needle) c)
     where
       by_end : (e : Ended) → (cursor_of (accepted c e)).stop ≡ c.stop
       by_end (match_at p k) = refl
       by_end (nowhere k) = refl
 
-      by_number_lem : (r : ℕ) → (cursor_of (answered r c (walk words (front text c) needle))).stop ≡ c.stop
-      by_number_lem zero = by_end (walk words (front text c) needle c.position)
-      by_number_lem (suc r) = refl
+      by_refusal : (r : Result (Unit {0}) Refusal) → (cursor_of (answered r c (walk words (front text c) needle))).stop ≡ c.stop
+      by_refusal (Ok u) = by_end (walk words (front text c) needle c.position)
+      by_refusal (Err r) = refl
 
   from_kept : (k : ℕ) (c : Cursor) → (fill_from N k c).cursor.stop ≡ c.stop
   from_kept zero c = refl
@@ -82,9 +84,9 @@ module _ (words : Bool) (text needle : List ℕ) where
   call_kept a_next c = next_kept c
   call_kept (a_fill zero) c = empty (refusal (length text) (length needle) c)
     where
-      empty : (r : ℕ) → (empty_list c r).cursor.stop ≡ c.stop
-      empty zero = refl
-      empty (suc r) = refl
+      empty : (r : Result (Unit {0}) Refusal) → (empty_list c r).cursor.stop ≡ c.stop
+      empty (Ok u) = refl
+      empty (Err r) = refl
   call_kept (a_fill (suc k)) c = from_kept (suc k) c
 
 pub stop_kept : StopKept
@@ -155,7 +157,7 @@ whole_at_end words text needle c e = rw (e, take-length text)
 
 -- ---- the text cut at the stop, where a call is accepted
 
-module _ (words : Bool) (text needle : List ℕ) (c : Cursor) (accepted : refusal (length text) (length needle) c ≡ 0) where
+module _ (words : Bool) (text needle : List ℕ) (c : Cursor) (accepted : refusal (length text) (length needle) c ≡ Ok tt) where
   abbrev cut : List ℕ
   cut = take c.stop text
 

@@ -1,7 +1,9 @@
 -- A fill: the next matches into one list, as many as it has places for (document 02 [1]: all hits
 -- into one list). It is next match repeated, and nothing else. `End` and `Filled` are the types of
 -- src/lib.rt.
-use Rattle.std.specs.Prelude.{ℕ, zero, suc, ◌≡◌, Bool, List, [], ◌∷◌, ◌++◌, length, drop}
+use Rattle.std.specs.Prelude.{ℕ, zero, suc, ◌≡◌, Bool, List, [], ◌∷◌, ◌++◌, length, drop, Result, Ok, Err}
+use Rattle.refusals.specs.Numbers.{number_of}
+use Rattle.refusals.specs.declared.Refusal.{Refusal}
 use Rattle.search.specs.declared.Cursor.{Cursor}
 use Rattle.search.specs.declared.Next.{Next}
 use Rattle.search.specs.declared.Next.TheVariants.{Match, Absent, Refused}
@@ -35,7 +37,7 @@ found_first p f = fill_of (p ∷ f.positions) f.cursor f.end
 abbrev pub after_next : (Cursor → Fill) → Next → Fill
 after_next rest (Match p c) = found_first p (rest c)
 after_next rest (Absent c) = fill_of [] c EndAbsent
-after_next rest (Refused number c) = fill_of [] c (Stopped number)
+after_next rest (Refused r c) = fill_of [] c (Stopped r)
 
 -- Next match repeated for k places, each with the cursor of the one before. With no place left it
 -- is full: nothing more is tested.
@@ -45,10 +47,10 @@ fill_from next (suc k) c = after_next (fill_from next k) (next c)
 
 -- ---- the fill
 
--- an empty list, from the refusal that next match would give, or 0
-abbrev pub empty_list : Cursor → ℕ → Fill
-empty_list c zero = fill_of [] c Full
-empty_list c (suc number) = fill_of [] c (Stopped (suc number))
+-- an empty list, where next match would be accepted, or refused so
+abbrev pub empty_list : Cursor → Result (Unit {0}) Refusal → Fill
+empty_list c (Ok u) = fill_of [] c Full
+empty_list c (Err r) = fill_of [] c (Stopped r)
 
 -- The fill of a list of k places. For an empty list the refusals are tested once.
 unfoldable pub fill : Bool → List ℕ → List ℕ → ℕ → Cursor → Fill
@@ -92,7 +94,7 @@ stopped_after number (suc k) = stopped number (suc k)
 abbrev pub said_at : End → ℕ → FillSaid
 said_at Full count = full count
 said_at EndAbsent count = absent count
-said_at (Stopped number) count = stopped_after number count
+said_at (Stopped r) count = stopped_after (number_of r) count
 
 -- What each case of an answer says. Every other reading of an answer, also the one in C, is made
 -- from this and from its cursor.

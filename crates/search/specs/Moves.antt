@@ -1,6 +1,6 @@
 -- What the private functions of the search ask and say: how a cursor moves. A reader of the public
 -- calls needs none of it.
-use Rattle.std.specs.Prelude.{ℕ, ◌+◌, ◌≤◌, ◌<◌, min, ◌≡◌, Bool, true, false, cond, List, ltb, drop, length, take}
+use Rattle.std.specs.Prelude.{ℕ, ◌+◌, ◌≤◌, ◌<◌, min, ◌≡◌, Bool, true, false, cond, List, ltb, drop, length, take, Ok}
 use Rattle.blocks.specs.Blocks.{longest_text, operand_of}
 use Rattle.unit.specs.Operand.{count}
 use Rattle.search.specs.declared.Cursor.{Cursor}
@@ -10,6 +10,7 @@ use Rattle.search.specs.declared.End.{End}
 use Rattle.search.specs.declared.End.TheVariants.{Full, Absent as EndAbsent, Stopped}
 use Rattle.search.specs.declared.Filled.{Filled}
 use Rattle.search.specs.declared.Stepped.{Stepped}
+use Rattle.search.specs.declared.Stepped.TheVariants.{Found, Missed}
 use Rattle.search.specs.declared.Walked.{Walked}
 use Rattle.search.specs.Cursors.{longest_needle, moved, refusal}
 use Rattle.search.specs.Calls.{cursor_of}
@@ -47,20 +48,20 @@ pub record Ready (words : Bool) (text needle first : List ℕ) (l : ℕ) (c : Cu
 -- a place or more, for a walk.
 pub record Walkable (words : Bool) (text needle : List ℕ) (l : ℕ) (c : Cursor) (list : List ℕ)
     : Type 0 where
-  pub accepted : refusal (length text) (length needle) c ≡ 0
+  pub accepted : refusal (length text) (length needle) c ≡ Ok tt
   pub cut : c.stop ≡ length text
   pub size : l ≡ min (count words) (length needle)
   pub places : 0 < length list
 
 -- ---- how a cursor moves
 
--- the cursor c on by some elements, with these compares behind it
-abbrev pub stepped_by : Cursor → Bool → ℕ → ℕ → Stepped
-stepped_by c found by compares =
-    record {
-      found = found;
-      cursor = moved c (c.position + by) compares false;
-    }
+-- a step that finds the needle at the cursor c, with these compares behind it
+abbrev pub found_by : Cursor → ℕ → Stepped
+found_by c compares = Found (moved c c.position compares false)
+
+-- a step that misses it, on by some elements
+abbrev pub missed_by : Cursor → ℕ → ℕ → Stepped
+missed_by c by compares = Missed (moved c (c.position + by) compares false)
 
 -- what the needle's pieces from its element i on come to, where the needle is held against the text
 -- from p on
@@ -69,8 +70,8 @@ later_at words text needle p i = later words (drop i needle) (drop (p + i) text)
 
 -- the cursor c after the later pieces, the compare of the first piece counted too
 abbrev pub rested : Cursor → Later → Stepped
-rested c (none_differs k) = stepped_by c true 0 (c.compares + 1 + k)
-rested c (one_differs k) = stepped_by c false 1 (c.compares + 1 + k)
+rested c (none_differs k) = found_by c (c.compares + 1 + k)
+rested c (one_differs k) = missed_by c 1 (c.compares + 1 + k)
 
 -- how the later pieces come out, from how many agree and how many there are
 abbrev pub later_by : ℕ → ℕ → Later
@@ -83,19 +84,23 @@ later_by agreeing pieces =
 abbrev pub total : Bool → List ℕ → List ℕ → Cursor → Ended
 total words text needle c = plus c.compares (walk words text needle c.position)
 
--- how it ends from a step that led to this cursor: there if the step found the needle, else as the
--- walk from there does
-abbrev pub from : Bool → List ℕ → List ℕ → Bool → Cursor → Ended
-from words text needle true c = match_at c.position c.compares
-from words text needle false c = total words text needle c
+-- how it ends after a step: there if the step found the needle, else as the walk from there does
+abbrev pub from : Bool → List ℕ → List ℕ → Stepped → Ended
+from words text needle (Found c) = match_at c.position c.compares
+from words text needle (Missed c) = total words text needle c
+
+-- the cursor after a step
+abbrev pub reached : Stepped → Cursor
+reached (Found c) = c
+reached (Missed c) = c
 
 -- Steps led from the cursor c to r: the walk ends as before, with all its compares. If they did not
 -- find the needle, they moved on; they never go back.
 pub record Led (words : Bool) (text needle : List ℕ) (c : Cursor) (r : Stepped) : Type 0 where
-  pub same : from words text needle r.found r.cursor ≡ total words text needle c
-  pub onwards : r.found ≡ false → c.position < r.cursor.position
-  pub ahead : c.position ≤ r.cursor.position
-  pub near : r.cursor.position ≤ length text
+  pub same : from words text needle r ≡ total words text needle c
+  pub onwards : (d : Cursor) → r ≡ Missed d → c.position < d.position
+  pub ahead : c.position ≤ (reached r).position
+  pub near : (reached r).position ≤ length text
 
 -- ---- the answer
 
@@ -111,7 +116,7 @@ ended c (nowhere k) = Absent (moved c c.position k true)
 abbrev pub end_of : Next → End
 end_of (Match p c) = Full
 end_of (Absent c) = EndAbsent
-end_of (Refused number c) = Stopped number
+end_of (Refused r c) = Stopped r
 
 -- a fill's answer, from how many positions it wrote and the last answer
 abbrev pub filled_by : ℕ → Next → Filled

@@ -4,19 +4,21 @@ use Rattle.std.specs.Prelude.{ℕ, ◌+◌, ◌-◌, min, Bool, true, false, Lis
 use Rattle.unit.specs.Operand.{count, value_of}
 use Rattle.unit.specs.Calls.{PCMPESTRI}
 use Rattle.blocks.specs.Blocks.{operand_of}
+use Rattle.spans.specs.declared.Members.{Members}
+use Rattle.spans.specs.declared.Members.TheVariants.{Listed, Bounded}
 use Rattle.spans.specs.Spans.{in_set, in_ranges}
 
 -- x belongs to the list, read as a set or as ranges
-abbrev pub belongs : Bool → Bool → Bool → List ℕ → ℕ → Bool
-belongs words false signed list x = in_set list x
-belongs words true signed list x = in_ranges (value_of words signed) list x
+abbrev pub belongs : Bool → Members → List ℕ → ℕ → Bool
+belongs words Listed list x = in_set list x
+belongs words (Bounded signed) list x = in_ranges (value_of words signed) list x
 
 -- The control in bytes: equal any, or ranges, signed or not; negated, least. The index is then the
 -- first element that does not belong.
-abbrev pub span_control : Bool → Bool → ℕ
-span_control false signed = 0x10
-span_control true false = 0x14
-span_control true true = 0x16
+abbrev pub span_control : Members → ℕ
+span_control Listed = 0x10
+span_control (Bounded false) = 0x14
+span_control (Bounded true) = 0x16
 
 -- the block of a text that begins at i
 abbrev pub block : Bool → ℕ → List ℕ → List ℕ

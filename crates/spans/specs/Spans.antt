@@ -1,9 +1,11 @@
 -- Leading runs (document 01, "Runs, order and columns"): the longest front of a text whose elements
 -- all belong to a set, or to one of some ranges. `words` is the width; b is `count words`.
-use Rattle.std.specs.Prelude.{ℕ, ◌+◌, ◌*◌, ◌/◌, ◌%◌, ◌≤◌, ◌<◌, ◌≡◌, Bool, true, false, cond, not, ◌&&◌, List, [], eqb, ltb, length, get_or, take, ℤ}
+use Rattle.std.specs.Prelude.{ℕ, ◌+◌, ◌*◌, ◌/◌, ◌%◌, ◌≤◌, ◌<◌, ◌≡◌, Bool, true, false, cond, not, ◌&&◌, List, [], eqb, ltb, length, get_or, take, ℤ, Result, Ok, Err, is_ok}
 use Rattle.std.specs.Int.Signed.{le_z}
 use Rattle.bits.specs.Bits.{any_below, least_below}
 use Rattle.unit.specs.Operand.{count, value_of}
+use Rattle.refusals.specs.declared.Refusal.{Refusal}
+use Rattle.refusals.specs.declared.Refusal.TheVariants as refusal
 use Rattle.blocks.specs.Blocks.{longest_text}
 
 -- x is an element of the set
@@ -37,20 +39,22 @@ pub record LongestFront (belongs : ℕ → Bool) (text s : List ℕ) : Type 0 wh
 
 -- ---- the calls
 
--- the number that refuses a text of n elements with a set, or with a list of bounds, of m; or 0
-unfoldable pub set_refusal : Bool → ℕ → ℕ → ℕ
-set_refusal words n m = cond (ltb longest_text n) 2 (cond (ltb (count words) m) 4 0)
+-- what refuses a text of n elements with a set, or with a list of bounds, of m
+abbrev pub set_refusal : Bool → ℕ → ℕ → Result (Unit {0}) Refusal
+set_refusal words n m =
+    cond (ltb longest_text n) (Err refusal.Text) (cond (ltb (count words) m) (Err refusal.List) (Ok tt))
 
-unfoldable pub bounds_refusal : Bool → ℕ → ℕ → ℕ
+abbrev pub bounds_refusal : Bool → ℕ → ℕ → Result (Unit {0}) Refusal
 bounds_refusal words n m =
-    cond (ltb longest_text n) 2 (cond (ltb (count words) m) 4 (cond (eqb (m % 2) 1) 5 0))
+    cond (ltb longest_text n) (Err refusal.Text)
+    (cond (ltb (count words) m) (Err refusal.List) (cond (eqb (m % 2) 1) (Err refusal.Odd) (Ok tt)))
 
 -- what the calls give back: refused, the empty front
-unfoldable pub set_span : Bool → List ℕ → List ℕ → List ℕ
+abbrev pub set_span : Bool → List ℕ → List ℕ → List ℕ
 set_span words text set =
-    cond (eqb (set_refusal words (length text) (length set)) 0) (span (in_set set) text) []
+    cond (is_ok (set_refusal words (length text) (length set))) (span (in_set set) text) []
 
-unfoldable pub range_span : Bool → Bool → List ℕ → List ℕ → List ℕ
+abbrev pub range_span : Bool → Bool → List ℕ → List ℕ → List ℕ
 range_span words signed text bounds =
-    cond (eqb (bounds_refusal words (length text) (length bounds)) 0)
+    cond (is_ok (bounds_refusal words (length text) (length bounds)))
     (span (in_ranges (value_of words signed) bounds) text) []

@@ -9,16 +9,12 @@ fn aggregation_of(n: u8) -> Aggregation
     requires { n < 4 }
     ensures { result ≡ aggregation_of n }
 {
-    if n == 0 {
-        return Aggregation::EqualAny;
+    match n {
+        0 => Aggregation::EqualAny,
+        1 => Aggregation::Ranges,
+        2 => Aggregation::EqualEach,
+        _ => Aggregation::EqualOrdered,
     }
-    if n == 1 {
-        return Aggregation::Ranges;
-    }
-    if n == 2 {
-        return Aggregation::EqualEach;
-    }
-    Aggregation::EqualOrdered
 }
 
 // Bits 5:4.
@@ -26,29 +22,24 @@ fn polarity_of(n: u8) -> Polarity
     requires { n < 4 }
     ensures { result ≡ polarity_of n }
 {
-    if n == 0 {
-        return Polarity::Positive;
+    match n {
+        0 => Polarity::Positive,
+        1 => Polarity::Negative,
+        2 => Polarity::MaskedPositive,
+        _ => Polarity::MaskedNegative,
     }
-    if n == 1 {
-        return Polarity::Negative;
-    }
-    if n == 2 {
-        return Polarity::MaskedPositive;
-    }
-    Polarity::MaskedNegative
 }
 
 // All fields of the control byte.
+#[tactic(auto, unfolding(unit::specs::Control::control_of))]
 pub fn decode(control: u8) -> Control
     ensures { result ≡ control_of control }
 {
-    let aggregation = aggregation_of(control / 4 % 4);
-    let polarity = polarity_of(control / 16 % 4);
     Control {
         words: control % 2 == 1,
         signed: control / 2 % 2 == 1,
-        aggregation: aggregation,
-        polarity: polarity,
+        aggregation: aggregation_of(control / 4 % 4),
+        polarity: polarity_of(control / 16 % 4),
         high: control / 64 % 2 == 1,
     }
 }

@@ -5,7 +5,8 @@ ghost use Rattle.unit.specs.Output.{refused_index};
 ghost use Rattle.unit.specs.Readings.{flags_read, index_read};
 
 use crate::{operand, status};
-use unit::{CONTROL_REFUSED, Compared, Control, IndexAnswer};
+use refusals::Refusal;
+use unit::{Compared, Control, IndexAnswer};
 
 // The least or the greatest set bit, or b.
 fn index_of(high: bool, b: usize, bits: u32) -> u32
@@ -43,7 +44,7 @@ pub fn refused() -> IndexAnswer
 {
     let flags = status::none();
     IndexAnswer {
-        refusal: CONTROL_REFUSED,
+        refusal: Refusal::Control.number(),
         index: 0,
         flags: flags,
     }

@@ -1,11 +1,12 @@
 // The answer of the mask calls.
 ghost use Rattle.std.specs.Prelude.{◌≡◌, ◌∷◌, ◌/◌, ◌%◌, ◌<◌, replicate};
-ghost use Rattle.unit.specs.Operand.{count, in_bytes, in_words};
+ghost use Rattle.unit.specs.Operand.{count};
 ghost use Rattle.unit.specs.Output.{refused_mask};
 ghost use Rattle.unit.specs.Readings.{byte_read, element_read, flags_read, mask_read};
 
 use crate::{operand, status};
-use unit::{CONTROL_REFUSED, Compared, Control, MaskAnswer};
+use refusals::Refusal;
+use unit::{Compared, Control, Element, MaskAnswer};
 
 // The bits in the first two bytes, low byte first.
 fn bit_mask(bits: u32) -> [u8; 16]
@@ -17,73 +18,45 @@ fn bit_mask(bits: u32) -> [u8; 16]
     mask
 }
 
-// Byte i of the byte mask: 255 where bit i is set. Of four copies of four bits, seven places apart,
-// copy j has its bit j lowest in byte j. That place alone is kept, and times 255 it fills the byte.
-fn byte_mask_at(bits: u32, i: u32) -> u8
+// Byte i of the wide mask: 255 where the bit of its element is set. Of four copies of four bits,
+// seven places apart for bytes and fifteen for words, copy j has its bit j lowest in element j.
+// That place alone is kept, and times 255, or 65535, it fills the element.
+fn byte_at<T: Element>(bits: u32, i: u32) -> u8
     requires { i < 16 }
-    ensures { result ≡ byte_read in_bytes bits i }
+    ensures { result ≡ byte_read T.words bits i }
 {
-    let n = (bits >> (i / 4 * 4)) % 16;
-    let four = ((n * 0x00204081) & 0x01010101) * 255;
-    ((four >> (i % 4 * 8)) % 256) as u8
+    if T::COUNT < 16 {
+        let n = (bits >> (i / 8 * 4)) % 16;
+        let four = (((n as u64) * 0x0000200040008001) & 0x0001000100010001) * 65535;
+        ((four >> (i % 8 * 8)) % 256) as u8
+    } else {
+        let n = (bits >> (i / 4 * 4)) % 16;
+        let four = ((n * 0x00204081) & 0x01010101) * 255;
+        ((four >> (i % 4 * 8)) % 256) as u8
+    }
 }
 
-// Byte i of the word mask: 255 where bit i / 2 is set. The same with copies fifteen places apart,
-// for four words.
-fn word_mask_at(bits: u32, i: u32) -> u8
-    requires { i < 16 }
-    ensures { result ≡ byte_read in_words bits i }
-{
-    let n = (bits >> (i / 8 * 4)) % 16;
-    let four = (((n as u64) * 0x0000200040008001) & 0x0001000100010001) * 65535;
-    ((four >> (i % 8 * 8)) % 256) as u8
-}
-
-// Each bit fills its byte. Written out, for speed (docs/PERFORMANCE.md).
-fn byte_mask(bits: u32) -> [u8; 16]
-    ensures { result ≡ element_read in_bytes bits }
+// Each bit fills its element. Written out, for speed (docs/PERFORMANCE.md).
+fn element_mask<T: Element>(bits: u32) -> [u8; 16]
+    ensures { result ≡ element_read T.words bits }
 {
     [
-        byte_mask_at(bits, 0),
-        byte_mask_at(bits, 1),
-        byte_mask_at(bits, 2),
-        byte_mask_at(bits, 3),
-        byte_mask_at(bits, 4),
-        byte_mask_at(bits, 5),
-        byte_mask_at(bits, 6),
-        byte_mask_at(bits, 7),
-        byte_mask_at(bits, 8),
-        byte_mask_at(bits, 9),
-        byte_mask_at(bits, 10),
-        byte_mask_at(bits, 11),
-        byte_mask_at(bits, 12),
-        byte_mask_at(bits, 13),
-        byte_mask_at(bits, 14),
-        byte_mask_at(bits, 15),
-    ]
-}
-
-// Each bit fills the two bytes of its word. Written out, for speed (docs/PERFORMANCE.md).
-fn word_mask(bits: u32) -> [u8; 16]
-    ensures { result ≡ element_read in_words bits }
-{
-    [
-        word_mask_at(bits, 0),
-        word_mask_at(bits, 1),
-        word_mask_at(bits, 2),
-        word_mask_at(bits, 3),
-        word_mask_at(bits, 4),
-        word_mask_at(bits, 5),
-        word_mask_at(bits, 6),
-        word_mask_at(bits, 7),
-        word_mask_at(bits, 8),
-        word_mask_at(bits, 9),
-        word_mask_at(bits, 10),
-        word_mask_at(bits, 11),
-        word_mask_at(bits, 12),
-        word_mask_at(bits, 13),
-        word_mask_at(bits, 14),
-        word_mask_at(bits, 15),
+        byte_at::<T>(bits, 0),
+        byte_at::<T>(bits, 1),
+        byte_at::<T>(bits, 2),
+        byte_at::<T>(bits, 3),
+        byte_at::<T>(bits, 4),
+        byte_at::<T>(bits, 5),
+        byte_at::<T>(bits, 6),
+        byte_at::<T>(bits, 7),
+        byte_at::<T>(bits, 8),
+        byte_at::<T>(bits, 9),
+        byte_at::<T>(bits, 10),
+        byte_at::<T>(bits, 11),
+        byte_at::<T>(bits, 12),
+        byte_at::<T>(bits, 13),
+        byte_at::<T>(bits, 14),
+        byte_at::<T>(bits, 15),
     ]
 }
 
@@ -93,9 +66,9 @@ fn mask_of(high: bool, words: bool, bits: u32) -> [u8; 16]
 {
     if high {
         if words {
-            word_mask(bits)
+            element_mask::<u16>(bits)
         } else {
-            byte_mask(bits)
+            element_mask::<u8>(bits)
         }
     } else {
         bit_mask(bits)
@@ -126,7 +99,7 @@ pub fn refused() -> MaskAnswer
 {
     let flags = status::none();
     MaskAnswer {
-        refusal: CONTROL_REFUSED,
+        refusal: Refusal::Control.number(),
         mask: [0u8; 16],
         flags: flags,
     }

@@ -17,6 +17,6 @@ pub fn negated(p: Polarity, words: bool, l2: usize) -> u32
         Polarity::Positive => 0,
         Polarity::Negative => bits::first(b),
         Polarity::MaskedPositive => 0,
-        Polarity::MaskedNegative => bits::first(bits::min(b, l2)),
+        Polarity::MaskedNegative => bits::first(b.min(l2)),
     }
 }

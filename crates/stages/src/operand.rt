@@ -9,28 +9,19 @@ pub fn count_of(words: bool) -> usize
     if words { 8 } else { 16 }
 }
 
-// The absolute value of a length, cut to 16. The least length of all, -2^63, is cut before it would
-// be negated.
+// The absolute value of a length, cut to 16. That of the least length of all, -2^63, has no place
+// in an i64.
 fn magnitude(length: i64) -> usize
     ensures { result ≡ min 16 (nat_abs length) }
 {
-    if length >= 16 {
-        return 16;
-    }
-    if length <= -16 {
-        return 16;
-    }
-    if length < 0 {
-        return (0 - length) as usize;
-    }
-    length as usize
+    length.unsigned_abs().min(16) as usize
 }
 
 // The effective length of an operand, from an explicit length.
 pub fn explicit_length(words: bool, length: i64) -> usize
     ensures { result ≡ explicit_length (count words) length }
 {
-    bits::min(count_of(words), magnitude(length))
+    count_of(words).min(magnitude(length))
 }
 
 // A word of two bytes, low byte first.
@@ -45,11 +36,9 @@ pub fn words_of(x: [u8; 16]) -> [u16; 8]
     ensures { result ≡ words_of x }
 {
     let mut a = [0u16; 8];
-    let mut i = 0;
-    while i < 8 {
+    for i in 0..8 {
         let at = 2 * i;
         a[i] = word(x[at], x[at + 1]);
-        i += 1;
     }
     a
 }

@@ -6,3 +6,4 @@ pub mod Selection
 pub mod Signs
 pub mod Modes
 pub mod Unit
+pub mod Elements

@@ -1,4 +1,4 @@
--- What the loops of src/bytes.rt and src/words.rt compute, as numbers of b bits. Stated over b,
+-- What the loops of crate `modes` compute, as numbers of b bits. Stated over b,
 -- which is 16 or 8. Assumes nothing.
 use Prim.Native.Nat.{ℕ, zero, suc, ◌+◌, ◌*◌, ◌-◌, ◌/◌, ◌%◌, ◌^◌, ◌≤◌, ◌<◌, min}
 use mathlib.Core.Path.{◌≡◌, refl, sym, ap, subst, ◌∙◌}
@@ -10,11 +10,11 @@ use native.Mathlib.Omega.{arith}
 use lib.Dec.{eqb, ltb}
 use lib.ListN.{get_or, replicate}
 use lib.IntN.{ℤ}
-use lib.Bits.{bit_and, bit_or, bit_xor, and_le_l, and_mask, and_mod, and_shr, or_self, or_zero_l, or_zero_r}
+use lib.Bits.{bit_and, bit_or, bit_xor, and_le_l, and_mask, and_mod, and_shr}
 use lib.Pow.{field, mod-mod-pow, pow_pos, shl-shr, shr-shr}
 use borrow.Author.Tests.{eq-eqb, ne_eqb, lt-ltb, le-ltb}
-use Rattle.bits.specs.Bits.{all_below, least_below, number_of, tabulate}
-use Rattle.bits.proofs.Below.{and_over_or, or_true, and_true, and_false, any_more_below, all_cut, by_order, by_test, least_at, least_none, number_same}
+use Rattle.bits.specs.Bits.{all_below, number_of, tabulate}
+use Rattle.bits.proofs.Below.{and_over_or, or_true, and_true, and_false, any_more_below, all_cut, by_order, by_test, number_same}
 use Rattle.bits.proofs.Lists.{get_or_tabulate, tabulate_same}
 use Rattle.bits.proofs.Numbers.{number_and, number_both, number_or, number_xor, number_cut, number_shift, number_bit, number_zero, number_bits, cut_bit, no_bits}
 use Rattle.unit.specs.declared.Aggregation.TheVariants.{EqualEach, EqualOrdered}
@@ -68,11 +68,11 @@ unfolding tabulate
 replicated zero = refl
 replicated (suc n) = replicate_more n ∙ ap (λ (xs : List ℕ). xs ++ (0 ∷ [])) (replicated n)
 
-marks_or : (v : ℕ) (s t : Bool) → bit_or (cond s v 0) (cond t v 0) ≡ cond (s || t) v 0
-marks_or v true true = or_self v
-marks_or v true false = or_zero_r v
-marks_or v false true = or_zero_l v
-marks_or v false false = refl
+marks_more : (v : ℕ) (s t : Bool) → cond t v (cond s v 0) ≡ cond (s || t) v 0
+marks_more v true true = refl
+marks_more v true false = refl
+marks_more v false true = refl
+marks_more v false false = refl
 
 module _ (b v : ℕ) (value : ℕ → ℤ) (x₁ x₂ : List ℕ) where
   -- the marks of the first i ranges
@@ -82,13 +82,13 @@ module _ (b v : ℕ) (value : ℕ → ℤ) (x₁ x₂ : List ℕ) where
   pub row_start : (row : List ℕ) → row ≡ replicate b 0 → row ≡ row_to 0
   row_start row e = e ∙ replicated b
 
-  pub row_more : (i : ℕ) (row next : List ℕ) → row ≡ row_to i → next ≡ tabulate b (λ j. bit_or (get_or row j 0) (cond (between value (get_or x₁ (2 * i) 0) (get_or x₁ (2 * i + 1) 0) (get_or x₂ j 0)) v 0)) → next ≡ row_to (i + 1)
+  pub row_more : (i : ℕ) (row next : List ℕ) → row ≡ row_to i → next ≡ tabulate b (λ j. cond (between value (get_or x₁ (2 * i) 0) (get_or x₁ (2 * i + 1) 0) (get_or x₂ j 0)) v (get_or row j 0)) → next ≡ row_to (i + 1)
   row_more i row next d e =
       rw (e, d, add-one i)
       (tabulate_same b _ (λ j. cond (in_range value x₁ (suc i) (get_or x₂ j 0)) v 0)
       (λ j u.
       rw (get_or_tabulate b j (λ m. cond (in_range value x₁ i (get_or x₂ m 0)) v 0) 0 u)
-      (marks_or v (in_range value x₁ i (get_or x₂ j 0)) (between value (get_or x₁ (2 * i) 0) (get_or x₁ (2 * i + 1) 0) (get_or x₂ j 0)))))
+      (marks_more v (in_range value x₁ i (get_or x₂ j 0)) (between value (get_or x₁ (2 * i) 0) (get_or x₁ (2 * i + 1) 0) (get_or x₂ j 0)))))
 
   marked : (t : Bool) → 0 < v → eqb (cond t v 0) v ≡ t
   marked true z = eq-eqb v v refl
@@ -132,15 +132,6 @@ pub differ_made : (b : ℕ) (x₁ x₂ : List ℕ) (l : ℕ) (e v ones : ℕ) �
 differ_made b x₁ x₂ l e v ones h h₁ o d f =
     rw (d, first_cut b l v h h₁ f, o, number_xor b (λ j. eqb (get_or x₂ j 0) (get_or x₁ j 0)) (λ j. true), number_both b (λ j. not (eqb (get_or x₂ j 0) (get_or x₁ j 0))) (λ j. ltb j l))
     (number_same b _ (λ j. not (each_of x₁ l x₂ l j)) (λ i u. one_length (ltb i l) (eqb (get_or x₂ i 0) (get_or x₁ i 0))))
-
--- the first place where they do, and none
-pub differ_first : (b : ℕ) (x₁ x₂ : List ℕ) (l i : ℕ) → l ≤ b → i < l → ((k : ℕ) → k < i → get_or x₂ k 0 ≡ get_or x₁ k 0) → (get_or x₂ i 0 ≡ get_or x₁ i 0 → ⊥) → least_below b (λ j. not (each_of x₁ l x₂ l j)) ≡ i
-differ_first b x₁ x₂ l i h u same ne =
-    least_at b (λ j. not (each_of x₁ l x₂ l j)) i (omega arith) (λ k v. rw (lt-ltb k l (omega arith), eq-eqb (get_or x₂ k 0) (get_or x₁ k 0) (same k v)) refl) (rw (lt-ltb i l u, ne_eqb (get_or x₂ i 0) (get_or x₁ i 0) ne) refl)
-
-pub differ_nowhere : (b : ℕ) (x₁ x₂ : List ℕ) (l : ℕ) → ((k : ℕ) → k < l → get_or x₂ k 0 ≡ get_or x₁ k 0) → least_below b (λ j. not (each_of x₁ l x₂ l j)) ≡ b
-differ_nowhere b x₁ x₂ l same =
-    least_none b (λ j. not (each_of x₁ l x₂ l j)) (λ k v. by_order k l (λ u. rw (lt-ltb k l u, eq-eqb (get_or x₂ k 0) (get_or x₁ k 0) (same k u)) refl) (λ u. rw (le-ltb k l u) refl))
 
 -- ---- equal ordered
 

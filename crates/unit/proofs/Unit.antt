@@ -9,7 +9,6 @@ use lib.Dec.{eqb, ltb}
 use lib.ListN.{length, get_or, replicate}
 use lib.IntN.{ℤ, pos}
 use lib.Signed.{le_z}
-use lib.Count.{count_trailing_zeros}
 use lib.Bits.{bit_xor}
 use mathlib.Core.Logic.{by_cases}
 use native.Mathlib.Decide.{dec_lt}
@@ -256,16 +255,13 @@ module _ (f : Control → Operands) (c : ℕ) (k : Control) (t : Compared) (kept
 -- ---- the index at a fixed control: 0Ch and 0Dh, equal ordered; 18h and 19h, equal each negated
 
 module _ (y₁ : List ℕ) (z₁ : ℤ) (y₂ : List ℕ) (z₂ : ℤ) (l₁ l₂ n : ℕ) where
-  pub ordered_index : (w : Bool) → l₁ ≡ explicit_length (count w) z₁ → l₂ ≡ explicit_length (count w) z₂ → n ≡ number_of (count w) (ordered_of (count w) (elements w y₁) l₁ (elements w y₂) l₂) → cond (eqb n 0) (count w) (count_trailing_zeros 32 n) ≡ (PCMPESTRI y₁ z₁ y₂ z₂ (cond w 0x0D 0x0C)).index
+  -- from the least place where operand 1 stands in operand 2
+  pub ordered_index : (w : Bool) → l₁ ≡ explicit_length (count w) z₁ → l₂ ≡ explicit_length (count w) z₂ → n ≡ least_below (count w) (ordered_of (count w) (elements w y₁) l₁ (elements w y₂) l₂) → n ≡ (PCMPESTRI y₁ z₁ y₂ z₂ (cond w 0x0D 0x0C)).index
   unfolding PCMPESTRI control_of index_of int_res2 int_res1 bool_res
-  ordered_index true e₁ e₂ d =
-      least_read 8 n (ordered_of 8 (words_of y₁) l₁ (words_of y₂) l₂) (omega arith) d
-      ∙ (λ t. least_below 8 (ordered_of 8 (words_of y₁) (e₁ t) (words_of y₂) (e₂ t)))
-  ordered_index false e₁ e₂ d =
-      least_read 16 n (ordered_of 16 y₁ l₁ y₂ l₂) (omega arith) d
-      ∙ (λ t. least_below 16 (ordered_of 16 y₁ (e₁ t) y₂ (e₂ t)))
+  ordered_index true e₁ e₂ d = d ∙ (λ t. least_below 8 (ordered_of 8 (words_of y₁) (e₁ t) (words_of y₂) (e₂ t)))
+  ordered_index false e₁ e₂ d = d ∙ (λ t. least_below 16 (ordered_of 16 y₁ (e₁ t) y₂ (e₂ t)))
 
-  -- the index, from the least place where the operands differ
+  -- from the least place where the operands differ
   pub differ_index : (w : Bool) → l₁ ≡ explicit_length (count w) z₁ → l₂ ≡ explicit_length (count w) z₂ → n ≡ least_below (count w) (λ j. not (each_of (elements w y₁) l₁ (elements w y₂) l₂ j)) → n ≡ (PCMPESTRI y₁ z₁ y₂ z₂ (cond w 0x19 0x18)).index
   unfolding PCMPESTRI control_of index_of int_res2 int_res1 bool_res
   differ_index true e₁ e₂ d = d ∙ (λ t. least_below 8 (λ j. not (each_of (words_of y₁) (e₁ t) (words_of y₂) (e₂ t) j)))

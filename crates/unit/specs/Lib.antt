@@ -11,3 +11,4 @@ pub mod Selection
 pub mod Specimens
 pub mod Modes
 pub mod Readings
+pub mod Elements

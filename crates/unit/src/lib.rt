@@ -1,11 +1,12 @@
 // The string compare unit of SSE4.2 as a definition: its types here, what they mean in specs/
 // (after the Intel SSE4 Programming Reference, section 5.3 and the four instruction pages), its
 // laws in proofs/. There is no function here: `stages` and `modes` compute it and `pcmpstr` has the
-// calls.
+// calls. `Element` is a byte or a word.
 #![tactic(auto)]
 
-// Refusal number 1: the control is above 127. Number 0 stands for an accepted call.
-pub const CONTROL_REFUSED: u32 = 1;
+mod element;
+
+pub use element::Element;
 
 // How the comparisons of single elements are aggregated into IntRes1: control bits 3:2.
 #[derive(Clone, Copy)]
@@ -47,8 +48,9 @@ pub struct Flags {
     pub parity: bool,
 }
 
-// The answer of the index calls. Refused, `refusal` is the number and every other field zero or
-// false.
+// The answer of the index calls. Accepted, `refusal` is 0. Refused, it is the number, and every
+// other field is zero or false: a field and no Result, since the theorem `masks_hold`
+// (specs/Specimens.antt) reads the fields of a refused answer.
 #[derive(Clone, Copy)]
 pub struct IndexAnswer {
     pub refusal: u32,

@@ -53,37 +53,66 @@ const LENGTHS: [i64; 32] = [
     -9223372036854775808,
 ];
 
-// The four calls.
-#[derive(Clone, Copy)]
-enum Call {
-    Pcmpestri,
-    Pcmpestrm,
-    Pcmpistri,
-    Pcmpistrm,
-}
-
-// An operand, and the generator's state after it.
-#[derive(Clone, Copy)]
-struct Drawn {
-    bytes: [u8; 16],
-    state: u64,
-}
-
-// What a call is run on, and the generator's state after it.
+// What a call is run on.
 #[derive(Clone, Copy)]
 struct Block {
     operand1: [u8; 16],
     length1: i64,
     operand2: [u8; 16],
     length2: i64,
+}
+
+// The generator, xorshift64, which maps the numbers other than 0 onto themselves.
+#[derive(Clone, Copy)]
+struct Generator {
     state: u64,
 }
 
-// The generator: xorshift64, which maps the numbers other than 0 onto themselves.
+// The number after a number.
 fn next(state: u64) -> u64 {
     let a = state ^ (state << 13);
     let b = a ^ (a >> 7);
     b ^ (b << 17)
+}
+
+impl Generator {
+    // The generator of a control's blocks.
+    fn of(control: u8) -> Generator {
+        Generator {
+            state: next(SEED ^ control as u64),
+        }
+    }
+
+    // One draw: the high half of the next number.
+    fn draw(&mut self) -> u64 {
+        self.state = next(self.state);
+        self.state >> 32
+    }
+
+    // An operand of sixteen bytes of an alphabet.
+    fn operand(&mut self, alphabet: u64) -> [u8; 16] {
+        let mut bytes = [0u8; 16];
+        for byte in &mut bytes {
+            *byte = letter(alphabet, self.draw());
+        }
+        bytes
+    }
+
+    // The block of a number: the number picks the alphabet and the relation, so that sixteen
+    // blocks have all pairs of them.
+    fn block(&mut self, number: u64) -> Block {
+        let operand2 = self.operand(number % 4);
+        let other = self.operand(number % 4);
+        let operand1 = related(number / 4 % 4, operand2, other, self.draw());
+        let length1 = length(self.draw());
+        let length2 = length(self.draw());
+        Block {
+            operand1,
+            length1,
+            operand2,
+            length2,
+        }
+    }
 }
 
 // The digest with one more number in it. `next` loses nothing, so a single wrong number always
@@ -92,46 +121,34 @@ fn fold(digest: u64, number: u64) -> u64 {
     next(digest ^ number)
 }
 
-// The digest with a flag in it.
-fn fold_flag(digest: u64, flag: bool) -> u64 {
-    if flag {
-        fold(digest, 1)
-    } else {
-        fold(digest, 0)
-    }
-}
-
 // The digest with the six flags in it.
 fn fold_flags(digest: u64, flags: unit::Flags) -> u64 {
-    let c = fold_flag(digest, flags.carry);
-    let z = fold_flag(c, flags.zero);
-    let s = fold_flag(z, flags.sign);
-    let o = fold_flag(s, flags.overflow);
-    let a = fold_flag(o, flags.auxiliary);
-    fold_flag(a, flags.parity)
+    [
+        flags.carry,
+        flags.zero,
+        flags.sign,
+        flags.overflow,
+        flags.auxiliary,
+        flags.parity,
+    ]
+    .iter()
+    .fold(digest, |d, flag| fold(d, *flag as u64))
 }
 
 // The digest with an index and its flags in it.
 fn fold_index(digest: u64, answer: unit::IndexAnswer) -> u64 {
-    let flags = answer.flags;
     let refused = fold(digest, answer.refusal as u64);
-    fold_flags(fold(refused, answer.index as u64), flags)
+    fold_flags(fold(refused, answer.index as u64), answer.flags)
 }
 
 // The digest with a mask and its flags in it.
 fn fold_mask(digest: u64, answer: unit::MaskAnswer) -> u64 {
-    let flags = answer.flags;
-    let mask = answer.mask;
-    let mut folded = fold(digest, answer.refusal as u64);
-    for i in 0..16 {
-        folded = fold(folded, wide(mask[i]));
-    }
-    fold_flags(folded, flags)
-}
-
-// A byte as a number of 64 bits.
-fn wide(byte: u8) -> u64 {
-    byte as u64
+    let refused = fold(digest, answer.refusal as u64);
+    let masked = answer
+        .mask
+        .iter()
+        .fold(refused, |d, byte| fold(d, *byte as u64));
+    fold_flags(masked, answer.flags)
 }
 
 // A byte of one of four alphabets: any byte, two letters, the edges, or four letters with zeros
@@ -149,25 +166,10 @@ fn letter(alphabet: u64, draw: u64) -> u8 {
     }
 }
 
-// An operand of sixteen bytes of an alphabet.
-fn operand(alphabet: u64, start: u64) -> Drawn {
-    let mut bytes = [0u8; 16];
-    let mut state = start;
-    for i in 0..16 {
-        state = next(state);
-        bytes[i] = letter(alphabet, state >> 32);
-    }
-    Drawn {
-        bytes: bytes,
-        state: state,
-    }
-}
-
 // `text` with one byte changed, so that a comparison fails late or in one place only.
 fn near(text: [u8; 16], draw: u64) -> [u8; 16] {
     let mut bytes = text;
-    let at = (draw % 16) as usize;
-    bytes[at] = bytes[at] ^ 1;
+    bytes[(draw % 16) as usize] ^= 1;
     bytes
 }
 
@@ -199,56 +201,29 @@ fn length(draw: u64) -> i64 {
     LENGTHS[(draw % 32) as usize]
 }
 
-// The block of a number: the number picks the alphabet and the relation, so that sixteen blocks
-// have all pairs of them.
-fn generate(number: u64, start: u64) -> Block {
-    let text = operand(number % 4, start);
-    let operand2 = text.bytes;
-    let drawn = operand(number % 4, text.state);
-    let other = drawn.bytes;
-    let s = next(drawn.state);
-    let operand1 = related(number / 4 % 4, operand2, other, s >> 32);
-    let s1 = next(s);
-    let s2 = next(s1);
-    Block {
-        operand1: operand1,
-        length1: length(s1 >> 32),
-        operand2: operand2,
-        length2: length(s2 >> 32),
-        state: s2,
-    }
-}
-
-// The digest with the answer of a call on a block in it.
-fn fold_answer(digest: u64, call: Call, block: Block, control: u8) -> u64 {
-    let a = block.operand1;
-    let b = block.operand2;
-    let la = block.length1;
-    let lb = block.length2;
-    match call {
-        Call::Pcmpestri => fold_index(digest, pcmpstr::pcmpestri(a, la, b, lb, control)),
-        Call::Pcmpestrm => fold_mask(digest, pcmpstr::pcmpestrm(a, la, b, lb, control)),
-        Call::Pcmpistri => fold_index(digest, pcmpstr::pcmpistri(a, b, control)),
-        Call::Pcmpistrm => fold_mask(digest, pcmpstr::pcmpistrm(a, b, control)),
-    }
-}
-
-// The digest of a call at a control, over the 256 blocks of the control.
-fn digest_of(call: Call, control: u8) -> u64 {
+// The digest of a call at a control, over the 256 blocks of the control. `answer` folds the call's
+// answer on one block into the digest.
+fn digest_of<F: Fn(u64, Block, u8) -> u64>(answer: &F, control: u8) -> u64
+    requires { F.IsAlwaysCallable answer.now }
+{
+    let mut generator = Generator::of(control);
     let mut digest = SEED;
-    let mut state = next(SEED ^ wide(control));
     for number in 0..256 {
-        let drawn = generate(number, state);
-        state = drawn.state;
-        digest = fold_answer(digest, call, drawn, control);
+        digest = answer(digest, generator.block(number), control);
     }
     digest
 }
 
 // Writes the lines of a call, one for each control.
-fn print_call(rt: &impl Print, name: &str, call: Call) -> io::Result<()> {
+fn print_call<F: Fn(u64, Block, u8) -> u64>(
+    rt: &impl Print,
+    name: &str,
+    answer: F,
+) -> io::Result<()>
+    requires { F.IsAlwaysCallable answer }
+{
     for control in 0..128 {
-        let digest = digest_of(call, control);
+        let digest = digest_of(&answer, control);
         println!(rt; "{name} {control:02x} {digest:016x}")?;
     }
     Ok(())
@@ -256,8 +231,18 @@ fn print_call(rt: &impl Print, name: &str, call: Call) -> io::Result<()> {
 
 // Writes the lines of the four calls. A write that fails ends the program.
 fn main(rt: HostRuntime) -> io::Result<()> {
-    print_call(&rt, "pcmpestri", Call::Pcmpestri)?;
-    print_call(&rt, "pcmpestrm", Call::Pcmpestrm)?;
-    print_call(&rt, "pcmpistri", Call::Pcmpistri)?;
-    print_call(&rt, "pcmpistrm", Call::Pcmpistrm)
+    print_call(&rt, "pcmpestri", |digest, b, control| {
+        let answer = pcmpstr::pcmpestri(b.operand1, b.length1, b.operand2, b.length2, control);
+        fold_index(digest, answer)
+    })?;
+    print_call(&rt, "pcmpestrm", |digest, b, control| {
+        let answer = pcmpstr::pcmpestrm(b.operand1, b.length1, b.operand2, b.length2, control);
+        fold_mask(digest, answer)
+    })?;
+    print_call(&rt, "pcmpistri", |digest, b, control| {
+        fold_index(digest, pcmpstr::pcmpistri(b.operand1, b.operand2, control))
+    })?;
+    print_call(&rt, "pcmpistrm", |digest, b, control| {
+        fold_mask(digest, pcmpstr::pcmpistrm(b.operand1, b.operand2, control))
+    })
 }

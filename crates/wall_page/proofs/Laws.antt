@@ -8,6 +8,7 @@ use lib.ListN.{length, get_or, take, drop, replicate, length-append, get_or-appe
 use lib.Seq.{take_at, drop_at, get_or_at, drop-append-add, length-take-le, get_or-take}
 use borrow.Author.Tests.{ltb-false}
 use Rattle.bits.proofs.Below.{by_test}
+use Rattle.std.specs.Prelude.{Ok}
 use Rattle.decimal.specs.Decimal.{column, digits, value}
 use Rattle.decimal.proofs.Digits.{digits_numeral}
 use Rattle.decimal.proofs.Columns.{length_column, value_column}
@@ -19,7 +20,7 @@ use Rattle.wall_page.specs.Pages.{time_of, printed_byte, name_column, printed_na
 use Rattle.wall_page.specs.Aligned.{Accepted, IsLine, Handed, IsPage}
 use Rattle.wall_page.proofs.Columns.{length_time}
 use Rattle.wall_page.proofs.Lines.{up_to_time, up_to_space, up_to_name, up_to_feed, length_printed}
-use Rattle.wall_page.proofs.Answers.{accepted_form, accepted_room, page_written}
+use Rattle.wall_page.proofs.Refused.{accepted_form, accepted_room, page_written}
 
 -- ---- fifty bytes
 
@@ -168,8 +169,8 @@ line_at (x ∷ l) rest f (suc r) h =
 
 -- ---- the page
 
-module _ (es : List Entry) (n : ℕ) (b : List ℕ) (handed : Handed es) (z : page_refusal es n (length b) ≡ 0) where
-  form : form_refusal es n ≡ 0
+module _ (es : List Entry) (n : ℕ) (b : List ℕ) (handed : Handed es) (z : page_refusal es n (length b) ≡ Ok tt) where
+  form : form_refusal es n ≡ Ok tt
   form = accepted_form es n (length b) z
 
   within : n ≤ length es
@@ -202,5 +203,5 @@ module _ (es : List Entry) (n : ℕ) (b : List ℕ) (handed : Handed es) (z : pa
       }
 
 -- every page that is accepted
-pub is_page : (es : List Entry) (n : ℕ) (b : List ℕ) → Handed es → page_refusal es n (length b) ≡ 0 → IsPage es n b
+pub is_page : (es : List Entry) (n : ℕ) (b : List ℕ) → Handed es → page_refusal es n (length b) ≡ Ok tt → IsPage es n b
 is_page = is_lined

@@ -1,5 +1,5 @@
 -- `Laws` has what a line and a page must be; the others are for the proofs of the functions.
 pub mod Columns
 pub mod Lines
-pub mod Answers
+pub mod Refused
 pub mod Laws

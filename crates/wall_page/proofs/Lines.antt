@@ -16,7 +16,7 @@ use Rattle.entries.specs.Entries.{bad_entry, name_of, no_entry}
 use Rattle.entries.proofs.Tests.{good_length}
 use Rattle.wall_page.specs.Pages.{time_of, printed_name, line_of, lines_of}
 use Rattle.wall_page.specs.Writers.{HasLine}
-use Rattle.wall_page.proofs.Columns.{length_name}
+use Rattle.wall_page.proofs.Columns.{length_name, length_time}
 
 -- a page that had b begins with n bytes x, and goes on as it was
 pub record Begins (x : List ℕ) (n : ℕ) (b page : List ℕ) : Type 0 where
@@ -82,13 +82,35 @@ up_to_name e = up_to_space e ++ (32 ∷ [])
 abbrev pub up_to_feed : Entry → List ℕ
 up_to_feed e = up_to_name e ++ printed_name e
 
-pub line_made : (e : Entry) (b page : List ℕ) → Begins (up_to_feed e ++ (10 ∷ [])) 50 b page → HasLine e b page
-unfolding line_of
-line_made e b page h = record { page = h.has; long = h.long }
-
 pub length_printed : (e : Entry) → bad_entry e ≡ false → length (printed_name e) ≡ 32
 unfolding name_of
 length_printed e g = length_name (take e.length e.name) (rw length-take (omega (arith, good_length e g)))
+
+-- the page as the line is put on it, part by part
+module _ (e : Entry) (b numbered : List ℕ) (h : e.number < 10000000000) (r : 50 ≤ length b) (w : numbered ≡ written e.number 10 b) where
+  -- with a space after the number
+  pub number_spaced : Begins (up_to_time e) 11 b (set numbered 10 32)
+  number_spaced = next_byte (column e.number 10) b numbered 10 32 (number_put e.number b numbered h (omega arith) w) (omega arith)
+
+  module _ (time : List ℕ) (t : time ≡ time_of e.minute ++ drop 5 (part_from 11 (set numbered 10 32))) where
+    abbrev timed : List ℕ
+    timed = with_part 11 time (set numbered 10 32)
+
+    -- with a space after the time
+    pub time_spaced : Begins (up_to_name e) 17 b (set timed 16 32)
+    time_spaced =
+        next_byte (up_to_space e) b timed 16 32
+        (next_part (up_to_time e) (time_of e.minute) b (set numbered 10 32) time 11 5 number_spaced (length_time e.minute) (omega arith) t) (omega arith)
+
+    -- with a line feed after the name
+    pub line_made : (name : List ℕ) → bad_entry e ≡ false → name ≡ printed_name e ++ drop 32 (part_from 17 (set timed 16 32))
+        → HasLine e b (set (with_part 17 name (set timed 16 32)) 49 10)
+    unfolding line_of
+    line_made name g n =
+        let named =
+        next_byte (up_to_feed e) b (with_part 17 name (set timed 16 32)) 49 10
+        (next_part (up_to_name e) (printed_name e) b (set timed 16 32) name 17 32 time_spaced (length_printed e g) (omega arith) n) (omega arith) in
+        record { page = named.has; long = named.long }
 
 -- ---- lines
 

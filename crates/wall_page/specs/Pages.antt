@@ -1,10 +1,12 @@
 -- The wall page of some entries (document 02 [6]): a line of 50 bytes for each entry, column by
 -- column, one line after the other. Bytes are numbers: 48 to 57 are the digits 0 to 9. Each
 -- definition computes; `Aligned.antt` says what a line and a page must be.
-use Rattle.std.specs.Prelude.{ℕ, ◌+◌, ◌-◌, ◌*◌, ◌/◌, ◌%◌, ◌≡◌, cond, ◌||◌, List, [], ◌∷◌, ◌++◌, map, eqb, ltb, length, take, drop, replicate}
+use Rattle.std.specs.Prelude.{ℕ, ◌+◌, ◌-◌, ◌*◌, ◌/◌, ◌%◌, ◌≡◌, cond, ◌||◌, List, [], ◌∷◌, ◌++◌, map, ltb, length, take, drop, replicate, Result, Ok, Err, is_ok}
+use Rattle.refusals.specs.declared.Refusal.{Refusal}
+use Rattle.refusals.specs.declared.Refusal.TheVariants.{Page}
 use Rattle.decimal.specs.Decimal.{column}
 use Rattle.entries.specs.declared.Entry.{Entry}
-use Rattle.entries.specs.Entries.{longest_name, name_of, form_refusal}
+use Rattle.entries.specs.Entries.{longest_name, name_of, form_refusal, if_accepted}
 
 -- ---- a line
 
@@ -62,19 +64,19 @@ lines_of (e ∷ es) = line_of e ++ lines_of es
 unfoldable pub page_of : List Entry → ℕ → List ℕ → List ℕ
 page_of es n page = lines_of (take n es) ++ drop (line_bytes * n) page
 
--- The number that refuses n entries and a page of so many bytes, or 0: 32 and 33 by the entries,
--- then 35 by the page.
-unfoldable pub page_refusal : List Entry → ℕ → ℕ → ℕ
+-- n entries and a page of so many bytes are refused, with 32 and 33 by the entries, then with 35 by
+-- the page, or accepted
+unfoldable pub page_refusal : List Entry → ℕ → ℕ → Result (Unit {0}) Refusal
 page_refusal es n room =
-    cond (eqb (form_refusal es n) 0) (cond (ltb room (line_bytes * n)) 35 0) (form_refusal es n)
+    if_accepted (form_refusal es n) (cond (ltb room (line_bytes * n)) (Err Page) (Ok tt))
 
 -- ---- the call
 
 -- the page after the call: refused, as it was
 unfoldable pub page_after : List Entry → ℕ → List ℕ → List ℕ
-page_after es n page = cond (eqb (page_refusal es n (length page)) 0) (page_of es n page) page
+page_after es n page = cond (is_ok (page_refusal es n (length page))) (page_of es n page) page
 
 -- what the call answers, and the page that it leaves
-pub record DayPage (es : List Entry) (n : ℕ) (before after : List ℕ) (r : ℕ) : Type 0 where
+pub record DayPage (es : List Entry) (n : ℕ) (before after : List ℕ) (r : Result (Unit {0}) Refusal) : Type 0 where
   pub answer : r ≡ page_refusal es n (length before)
   pub page : after ≡ page_after es n before

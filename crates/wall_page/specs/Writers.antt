@@ -1,5 +1,5 @@
 -- What the private functions of the page ask and say. A reader of the public call needs none of it.
-use Rattle.std.specs.Prelude.{ℕ, ◌*◌, ◌≤◌, ◌≡◌, false, List, ◌++◌, length, drop}
+use Rattle.std.specs.Prelude.{ℕ, ◌*◌, ◌≤◌, ◌≡◌, false, List, ◌++◌, length, drop, Ok}
 use Rattle.entries.specs.declared.Entry.{Entry}
 use Rattle.entries.specs.Entries.{last_minute, longest_name, bad_entry, form_refusal}
 use Rattle.wall_page.specs.Pages.{line_bytes, line_of, page_of}
@@ -27,7 +27,7 @@ pub record HasLine (e : Entry) (before after : List ℕ) : Type 0 where
 
 -- entries that are not refused, and a page with room for their lines
 pub record Room (es : List Entry) (n : ℕ) (page : List ℕ) : Type 0 where
-  pub accepted : form_refusal es n ≡ 0
+  pub accepted : form_refusal es n ≡ Ok tt
   pub room : line_bytes * n ≤ length page
 
 -- the lines of the first n entries were written

@@ -1,8 +1,7 @@
 // The chapel's wall page (document 02 [6]): a line of 50 bytes for each entry, so that the columns
 // line up whatever the names hold.
 //
-// Public call: `day_page` writes the lines of some entries at the front of a lent page, or tells
-// the number that refuses them.
+// Public call: `day_page` writes the lines of some entries at the front of a lent page.
 #![tactic(auto)]
 
 ghost use Rattle.std.specs.Prelude.{◌≡◌, cond, ◌++◌, ltb, take, drop};
@@ -11,9 +10,7 @@ ghost use Rattle.wall_page.specs.Pages.{name_column, printed_byte, time_of, DayP
 ghost use Rattle.wall_page.specs.Writers.{HasLine, HasLines, NameFits, Printable, Room, TimeFits};
 
 use entries::Entry;
-
-// Refusal number 35 of document 02: the page is shorter than the lines of the entries.
-pub const PAGE_REFUSED: u32 = 35;
+use refusals::Refusal;
 
 // The bytes of a line: the number's columns, the time, the name's columns, a space after each of
 // the first two, and a line feed.
@@ -32,16 +29,11 @@ const NAME_AT: usize = 17;
 const NAME_END: usize = 49;
 
 // A name byte as it is printed: `?` for one that has no sign of its own.
+#[tactic(auto, unfolding(crate::specs::Pages::printed_byte))]
 fn printed_byte(byte: u8) -> u8
     ensures { result ≡ printed_byte byte }
 {
-    if byte < 32 {
-        return b'?';
-    }
-    if byte > 126 {
-        return b'?';
-    }
-    byte
+    if byte < 32 || byte > 126 { b'?' } else { byte }
 }
 
 // The byte in a column of the name: a space past the length.
@@ -75,10 +67,8 @@ fn put_name(name: [u8; entries::LONGEST_NAME], size: usize, page: &mut [u8])
     ensures { page.new
         ≡ name_column (take size name) ++ drop longest_name page.old }
 {
-    let mut i = 0;
-    while i < entries::LONGEST_NAME {
+    for i in 0..entries::LONGEST_NAME {
         page[i] = name_byte(name[i], i, size);
-        i += 1;
     }
 }
 
@@ -87,12 +77,11 @@ fn put_line(e: Entry, page: &mut [u8])
     requires { Printable e page.old }
     ensures { HasLine e page.old page.new }
 {
-    decimal::right_justified(e.number as u64, NUMBER_WIDTH, page);
+    decimal::right_justified(e.number as u64, NUMBER_WIDTH, page).unwrap();
     page[NUMBER_WIDTH] = b' ';
     put_time(e.minute, &mut page[TIME_AT..]);
     page[TIME_END] = b' ';
-    let name = e.name;
-    put_name(name, e.length as usize, &mut page[NAME_AT..]);
+    put_name(e.name, e.length as usize, &mut page[NAME_AT..]);
     page[NAME_END] = b'\n';
 }
 
@@ -101,27 +90,25 @@ fn put_lines(entries: [Entry; entries::MOST_ENTRIES], count: usize, page: &mut [
     requires { Room entries count page.old }
     ensures { HasLines entries count page.old page.new }
 {
-    let mut r = 0;
-    while r < count {
-        let e = entries[r];
-        put_line(e, &mut page[DAY_LINE * r..]);
-        r += 1;
+    for r in 0..count {
+        put_line(entries[r], &mut page[DAY_LINE * r..]);
     }
 }
 
 // Writes a line for each of the first `count` entries, in the order in which they stand, at the
-// front of the page; the bytes after the last line stay. It answers 0. Refused, it writes nothing
-// and answers the refusal's number. Entries past the count are not looked at.
-pub fn day_page(entries: [Entry; entries::MOST_ENTRIES], count: usize, page: &mut [u8]) -> u32
+// front of the page; the bytes after the last line stay. Refused, it writes nothing. Entries past
+// the count are not looked at.
+pub fn day_page(
+    entries: [Entry; entries::MOST_ENTRIES],
+    count: usize,
+    page: &mut [u8],
+) -> Result<(), Refusal>
     ensures { DayPage entries count page.old page.new result }
 {
-    let refused = entries::form_refusal(entries, count);
-    if refused != 0 {
-        return refused;
-    }
+    entries::accept_form(entries, count)?;
     if page.len() < DAY_LINE * count {
-        return PAGE_REFUSED;
+        return Err(Refusal::Page);
     }
     put_lines(entries, count, page);
-    0
+    Ok(())
 }

@@ -8,10 +8,13 @@ use lib.Dec.{ltb}
 use lib.ListN.{length}
 use native.Mathlib.Omega.{arith}
 use native.Mathlib.Nat.{mul-le-mul_right, add-zero}
-use borrow.Author.Tests.{ltb-false}
+use borrow.Author.Tests.{ltb-false, le-ltb, lt-ltb}
 use Rattle.bits.proofs.Below.{by_test, by_order}
 use Rattle.blocks.specs.Blocks.{longest_text}
 use Rattle.unit.specs.Operand.{in_bytes}
+use Rattle.std.specs.Prelude.{Err}
+use Rattle.refusals.specs.declared.Refusal.{Refusal}
+use Rattle.refusals.specs.declared.Refusal.TheVariants.{Stop}
 use Rattle.search.specs.declared.Cursor.{Cursor}
 use Rattle.search.specs.Positions.{positions}
 use Rattle.search.specs.Walk.{Ended, match_at, after, count_from, walk, walk_count, bound}
@@ -23,7 +26,6 @@ use Rattle.search.proofs.Steps.{positions_end}
 use Rattle.search.proofs.Walks.{WalkOk, walk_ok}
 use Rattle.search.proofs.Lists.{refused_unchanged, fresh_positions, calls_find_whole}
 use Rattle.search.proofs.Mixtures.{mixed_as_next, mixed_finds}
-use Rattle.search.proofs.Refusals.{stop_refused}
 use Rattle.worst_case.specs.Cases.{worst}
 use Rattle.worst_case.specs.Most.{most, Slowest, WorstSlowest, WrittenSlowest, S5Follows}
 use Rattle.worst_case.proofs.Letters.{EndsInB, worst_ends}
@@ -56,11 +58,16 @@ module _ (words : Bool) (n m : ℕ) (text needle : List ℕ) (t : EndsInB n text
 
 -- ---- and no more
 
+-- a stop past the text's end is refused
+stop_past : (n m stop : ℕ) → n ≤ longest_text → m ≤ longest_needle → n < stop → refusal n m (fresh_cursor stop) ≡ Err Stop
+unfolding refusal
+stop_past n m stop h g past = rw (le-ltb longest_text n h, le-ltb longest_needle m g, lt-ltb n stop past)
+
 -- calls that are all refused leave the cursor
-unchanged : (words : Bool) (text needle : List ℕ) (k : ℕ) (c : Cursor) → 0 < refusal (length text) (length needle) c → cursor_after words text needle k c ≡ c
-unchanged words text needle zero c h = refl
-unchanged words text needle (suc k) c h =
-    ap (cursor_after words text needle k) (refused_unchanged words text needle c h) ∙ unchanged words text needle k c h
+unchanged : (words : Bool) (text needle : List ℕ) (k : ℕ) (c : Cursor) (r : Refusal) → refusal (length text) (length needle) c ≡ Err r → cursor_after words text needle k c ≡ c
+unchanged words text needle zero c r h = refl
+unchanged words text needle (suc k) c r h =
+    ap (cursor_after words text needle k) (refused_unchanged words text needle c r h) ∙ unchanged words text needle k c r h
 
 -- a stop before the text's end bounds no more
 bound_less : (words : Bool) (stop n m : ℕ) → stop ≤ n → m ≤ n → bound words stop m ≤ most words n m
@@ -77,8 +84,8 @@ module _ (words : Bool) (n m : ℕ) (z : Sizes words n m) (text needle : List �
       let small : length text ≤ longest_text = omega (arith, t, z.text) in
       let short : length needle ≤ longest_needle = omega (arith, s, z.needle) in
       by_order n stop
-      (λ past. let no = stop_refused (length text) (length needle) (fresh_cursor stop) small short refl (omega (arith, t)) in
-      let same = (mixed_as_next words text needle calls (fresh_cursor stop)).leaves ∙ unchanged words text needle (asked_by calls) (fresh_cursor stop) (omega (arith, no)) in
+      (λ past. let no = stop_past (length text) (length needle) stop small short (omega (arith, t)) in
+      let same = (mixed_as_next words text needle calls (fresh_cursor stop)).leaves ∙ unchanged words text needle (asked_by calls) (fresh_cursor stop) Stop no in
       rw same zero-le)
       (λ reach. let all = mixed_finds words text needle stop calls small short (omega (arith, t)) in
       omega (arith, all.counts, all.bounded, bound_less words stop n m reach z.within, ap (bound words stop) s))

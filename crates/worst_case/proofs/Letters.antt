@@ -2,9 +2,10 @@
 use Prim.Native.Nat.{ℕ, zero, suc, ◌-◌, ◌<◌}
 use mathlib.Core.Path.{◌≡◌, refl, sym, ap, ◌∙◌}
 use mathlib.Core.List.{List, [], ◌∷◌, ◌++◌}
-use lib.ListN.{length, get_or, set, take, replicate, length-set, length-replicate, length-append, get_or-replicate, get_or-append}
-use lib.Seq.{take_all, take-suc-set, get_or_at}
+use lib.ListN.{length, get_or, set, replicate, length-replicate, length-append, get_or-replicate, get_or-append}
+use lib.Seq.{ext_get_or, get_or_at}
 use native.Mathlib.Omega.{arith}
+use Rattle.unit.specs.Elements.{Reading}
 use Rattle.worst_case.specs.Cases.{letter_a, letter_b, worst}
 
 -- ---- the elements
@@ -26,19 +27,22 @@ worst_ends n h =
 
 -- ---- the writing
 
-replicate_more : (k : ℕ) → replicate k letter_a ++ (letter_a ∷ []) ≡ replicate (suc k) letter_a
-replicate_more zero = refl
-replicate_more (suc k) = ap (λ (l : List ℕ). letter_a ∷ l) (replicate_more k)
+set_last : (k : ℕ) → set (replicate (suc k) letter_a) k letter_b ≡ replicate k letter_a ++ (letter_b ∷ [])
+set_last zero = refl
+set_last (suc k) = ap (λ (l : List ℕ). letter_a ∷ l) (set_last k)
 
--- i places have `A`, and there is one more
-module _ (list : List ℕ) (i : ℕ) (all : take i list ≡ replicate i letter_a) (within : i < length list) where
-  pub one_more : take (suc i) (set list i letter_a) ≡ replicate (suc i) letter_a
-  one_more = take-suc-set list i letter_a within ∙ ap (λ (l : List ℕ). l ++ (letter_a ∷ [])) all ∙ replicate_more i
+module _ {A : Type 0} {numbers : List A → List ℕ} {number : A → ℕ} (r : Reading numbers number) where
+  numbers_replicate : (n : ℕ) (a : A) → numbers (replicate n a) ≡ replicate n (number a)
+  numbers_replicate n a =
+      ext_get_or 0 (numbers (replicate n a)) (replicate n (number a)) (r.long (replicate n a) ∙ length-replicate n a ∙ sym (length-replicate n (number a)))
+      (λ i h. let here : i < n = omega (arith, r.long (replicate n a), length-replicate n a) in
+      r.at (replicate n a) i a (rw length-replicate here) (sym (get_or-replicate n i a a here)) ∙ sym (get_or-replicate n i (number a) 0 here))
 
-  pub last_written : (n : ℕ) → length list ≡ n → suc i ≡ n → set list i letter_b ≡ worst n
+  -- all places have `A`, and then the last has `B`
+  pub last_written : (n : ℕ) (a b : A) → 0 < n → number a ≡ letter_a → number b ≡ letter_b → numbers (set (replicate n a) (n - 1) b) ≡ worst n
   unfolding worst
-  last_written n size e =
-      let before : n - 1 ≡ i = omega arith in
-      rw before
-      (sym (take_all (suc i) (set list i letter_b) (rw length-set (omega arith)))
-      ∙ take-suc-set list i letter_b within ∙ ap (λ (l : List ℕ). l ++ (letter_b ∷ [])) all)
+  last_written n a b some ha hb =
+      let more : n ≡ suc (n - 1) = omega arith in
+      r.stored (replicate n a) (n - 1) b
+      ∙ (λ t. set ((numbers_replicate n a ∙ (λ u. replicate (more u) (ha u))) t) (n - 1) (hb t))
+      ∙ set_last (n - 1)

@@ -1,6 +1,6 @@
 -- The claim on what the calls write: no search of these sizes takes more compares, and this one
 -- takes as many as there can be. The compares are those in the cursor.
-use Rattle.std.specs.Prelude.{ℕ, ◌+◌, ◌-◌, ◌*◌, ◌/◌, ◌≤◌, ◌≡◌, Bool, List, [], ◌∷◌, ◌++◌, length, replicate}
+use Rattle.std.specs.Prelude.{ℕ, ◌+◌, ◌-◌, ◌*◌, ◌/◌, ◌≤◌, ◌≡◌, Bool, List, [], ◌∷◌, ◌++◌, length, replicate, Ok}
 use Rattle.blocks.specs.Blocks.{longest_text}
 use Rattle.unit.specs.Operand.{count, in_bytes}
 use Rattle.search.specs.Cursors.{fresh_cursor, longest_needle}
@@ -39,7 +39,7 @@ WorstSlowest =
 abbrev pub WrittenSlowest : Type 0
 WrittenSlowest =
     (words : Bool) (n m : ℕ) (before before' text needle : List ℕ)
-    → WorstCase words n m before before' text needle 0 → Slowest words n m text needle
+    → WorstCase words n m before before' text needle (Ok tt) → Slowest words n m text needle
 
 -- the text and the needle of S5 (document 01)
 abbrev pub S5Text : List ℕ

@@ -11,7 +11,7 @@ use Rattle.unit.specs.Calls.{PCMPESTRI}
 use Rattle.unit.specs.Specimens.{all, same_list}
 use Rattle.search.specs.Walk.{later, walk}
 use Rattle.search.specs.Cursors.{fresh_cursor, longest_needle, refusal, next_match}
-use Rattle.search.specs.Calls.{found, absent, said_by, cursor_after}
+use Rattle.search.specs.Calls.{found, absent, number_by, said_by, cursor_after}
 use Rattle.search.specs.Specimens.{same}
 use Rattle.worst_case.specs.Cases.{worst, case_refusal}
 
@@ -55,7 +55,7 @@ searches_hold = tt
 
 -- what a call with buffers of just n and m elements answers
 abbrev pub answers : Bool → ℕ → ℕ → ℕ → Bool
-answers words n m number = eqb (case_refusal words n m n m) number
+answers words n m number = eqb (number_by (case_refusal words n m n m)) number
 
 -- the largest number that a caller can hand over
 abbrev pub largest : ℕ
@@ -79,11 +79,11 @@ H6 =
 -- H7: a buffer that is one shorter or one longer; and 36 before 37
 unfoldable pub H7 : Bool
 H7 =
-    eqb (case_refusal in_bytes 17 16 17 16) 0 && eqb (case_refusal in_bytes 17 16 16 16) 37
-    && eqb (case_refusal in_bytes 17 16 18 16) 37 && eqb (case_refusal in_bytes 17 16 17 15) 37
-    && eqb (case_refusal in_bytes 17 16 17 17) 37 && eqb (case_refusal in_bytes 17 16 16 17) 37
-    && eqb (case_refusal in_bytes 17 15 16 16) 36 && eqb (case_refusal in_words 9 8 0 0) 37
+    eqb (number_by (case_refusal in_bytes 17 16 17 16)) 0 && eqb (number_by (case_refusal in_bytes 17 16 16 16)) 37
+    && eqb (number_by (case_refusal in_bytes 17 16 18 16)) 37 && eqb (number_by (case_refusal in_bytes 17 16 17 15)) 37
+    && eqb (number_by (case_refusal in_bytes 17 16 17 17)) 37 && eqb (number_by (case_refusal in_bytes 17 16 16 17)) 37
+    && eqb (number_by (case_refusal in_bytes 17 15 16 16)) 36 && eqb (number_by (case_refusal in_words 9 8 0 0)) 37
 
 pub refusals_hold : T (all (H5 ∷ H6 ∷ H7 ∷ []))
-unfolding case_refusal H5 H6 H7
+unfolding H5 H6 H7
 refusals_hold = tt

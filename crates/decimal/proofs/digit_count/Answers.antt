@@ -10,14 +10,14 @@ next_power : (power count : ℕ) → power * 10 ≡ 10 ^ count → power * 10 * 
 next_power power count e = rw (add-one, pow-suc, e)
 
 pub loop-count-init : goal.loop-count-init
-loop-count-init c = (omega arith, omega arith, omega (arith, some_digit c.args.number), refl)
+loop-count-init c = (omega arith, some_digit c.args.number, refl)
 
 pub returns-then-number-power : goal.returns-then-number-power
 returns-then-number-power c = omega (arith, fits_width c.loop-count.count c.args.number (omega arith) (omega arith))
 
 pub loop-count-preserved : goal.loop-count-preserved
 loop-count-preserved c =
-    (omega arith, omega arith, omega (arith, fits_not c.loop-count.count c.args.number (omega arith)), next_power c.loop-count.power c.loop-count.count c.loop-count.invariant.3)
+    (omega arith, omega (arith, fits_not c.loop-count.count c.args.number (omega arith)), next_power c.loop-count.power c.loop-count.count c.loop-count.invariant.2)
 
 pub returns : goal.returns
 returns c = omega (arith, fits_width 20 c.args.number (omega arith) (omega arith))

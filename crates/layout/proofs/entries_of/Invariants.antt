@@ -1,14 +1,9 @@
-use Prim.Native.Nat.{◌≤◌, ◌-◌}
-use mathlib.Core.Path.{◌≡◌}
-use mathlib.Core.List.{[]}
-use lib.ListN.{get_or}
+-- The first i entries are read.
+use Rattle.std.proofs.Common.{◌≡◌, [], get_or}
 use Rattle.entries.proofs.Fills.{filling}
 use Rattle.entries.specs.Entries.{empty_entry}
 use Rattle.layout.specs.Layout.{entry_of}
 use Rattle.layout.proofs.entries_of.Given as goal
 
 abbrev pub invariant-loop-i : goal.invariant-loop-i
-invariant-loop-i l = (l.i ≤ l.n) × (l.out ≡ filling 200 empty_entry (λ j. entry_of (get_or l.rows j [])) l.i)
-
-abbrev pub decreases-loop-i : goal.decreases-loop-i
-decreases-loop-i l = l.n - l.i
+invariant-loop-i l = l.out ≡ filling 200 empty_entry (λ j. entry_of (get_or l.rows j [])) l.i

@@ -1,20 +1,9 @@
--- The first i bytes of the name are written after the numbers. Assumes nothing.
-use mathlib.Core.Path.{◌≡◌}
-use native.Mathlib.Omega.{arith}
-use lib.ListN.{length}
-use Rattle.layout.proofs.Rows.{name_more, row_made}
+-- The bytes of the numbers, low byte first, and the name after them.
+use Rattle.layout.proofs.Rows.{row_made}
+use mathlib.Core.List.{append-nil}
 use Rattle.layout.proofs.row_of.Goals as goal
-
-pub loop-i-preserved : goal.loop-i-preserved
-loop-i-preserved c =
-    let at-loop = c.loop-i in
-    let e = c.args.e in
-    let h : length e.name ≡ 32 = c.well_formed.0.1.1.1.1.1.0.1.0.1 in
-    (omega arith, name_more e h at-loop.i at-loop.bytes at-loop.invariant.1 (omega arith))
 
 pub returns : goal.returns
 returns c =
-    let at-loop = c.loop-i in
-    let e = c.args.e in
-    let h : length e.name ≡ 32 = c.well_formed.0.1.1.1.1.1.0.1.0.1 in
-    row_made e h at-loop.i at-loop.bytes at-loop.invariant.1 (omega arith)
+    row_made c.args.e _
+    (rw (c.copy_from_slice.ensures.after, c.copy_from_slice-2.ensures.after, c.copy_from_slice-3.ensures.after, c.copy_from_slice-4.ensures.after, c.to_le_bytes.ensures, c.to_le_bytes-2.ensures, c.to_le_bytes-3.ensures, append-nil))

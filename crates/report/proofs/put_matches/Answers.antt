@@ -1,68 +1,57 @@
--- `report::put_matches` meets its contract. The invariant: the cursor is the one after as many
--- calls as there are matches so far, and one more where absent was said; and the page has the lines
--- of the matches so far. A turn is `turned`, the end `found_all`. Assumes nothing.
-use Prim.Native.Nat.{◌≤◌, ◌<◌}
-use mathlib.Core.Path.{◌≡◌, refl, sym, subst, ◌∙◌}
-use mathlib.Core.Bool.{Bool, true}
+-- A turn of the loop finds the next match and puts its line behind the others; absent is said after
+-- the last one (Turns.antt). Assumes nothing.
+use Prim.Native.Nat.{◌*◌}
+use mathlib.Core.Path.{refl, sym, ◌∙◌}
 use native.Mathlib.Omega.{arith}
-use lib.ListN.{length}
-use Rattle.report.specs.declared.Tally.{Tally}
+use lib.ListN.{length-drop}
+use Rattle.decimal.proofs.Pages.{tail}
 use Rattle.search.proofs.Callers.{positions_few}
-use Rattle.report.proofs.Turns.{Called, calls_left, HasLines, no_lines, next_small, Turned, turned, found_all}
+use Rattle.report.proofs.Turns.{found_all, match_small, matched, no_lines}
 use Rattle.report.proofs.put_matches.Goals as goal
 
-pub loop-tally-init : goal.loop-tally-init
-loop-tally-init c =
+pub calls-init : goal.calls-init
+calls-init c = record { within = omega arith; at = c.fresh-cursor.ensures; room = refl; lines = no_lines c.args.page.now }
+
+pub overflow_mul-matches : goal.overflow_mul-matches
+overflow_mul-matches c =
     let a = c.args in
-    subst (λ (t : Tally). Called a.text.now a.needle.now t.more t.matches t.cursor × (length a.page.now ≡ length a.page.now) × HasLines a.text.now a.needle.now a.page.now a.page.now t.matches)
-    (sym c.begun-tally.ensures) ((omega arith, refl), refl, no_lines a.page.now)
+    omega (arith, c.calls.invariant.within, positions_few a.text.now a.needle.now, c.requires.small)
 
-pub overflow_mul-tally : goal.overflow_mul-tally
-overflow_mul-tally c =
-    let called : (Called c.args.text.now c.args.needle.now true c.loop-tally.tally.matches c.loop-tally.tally.cursor) = let a = c.args in let t = c.loop-tally.tally in subst (λ (b : Bool). Called a.text.now a.needle.now b t.matches t.cursor) c.loop-tally-test.true c.loop-tally.invariant.0 in
-    let few : (c.loop-tally.tally.matches ≤ 65536) = omega (arith, called.0, positions_few c.args.text.now c.args.needle.now) in
-    omega (arith, few)
+pub slice_bounds-put_number-count : goal.slice_bounds-put_number-count
+slice_bounds-put_number-count c =
+    let a = c.args in
+    omega (arith, c.calls.invariant.within, c.calls.invariant.room, positions_few a.text.now a.needle.now, c.requires.small, c.requires.room)
 
-pub put_match-requires : goal.put_match-requires
-put_match-requires c =
-    let called : (Called c.args.text.now c.args.needle.now true c.loop-tally.tally.matches c.loop-tally.tally.cursor) = let a = c.args in let t = c.loop-tally.tally in subst (λ (b : Bool). Called a.text.now a.needle.now b t.matches t.cursor) c.loop-tally-test.true c.loop-tally.invariant.0 in
-    let few : (c.loop-tally.tally.matches ≤ 65536) = omega (arith, called.0, positions_few c.args.text.now c.args.needle.now) in
-    let t = c.loop-tally.tally in (
-      next_small c.args.text.now c.args.needle.now c.requires.small c.requires.short t.matches t.cursor c.next_in_bytes-next.result called.0 called.1
-          c.next_in_bytes-next.ensures,
-      omega (arith, few, c.loop-tally.invariant.1, c.requires.room),
+pub slice_bounds-put_number-start : goal.slice_bounds-put_number-start
+slice_bounds-put_number-start c =
+    let a = c.args in
+    omega (arith, c.calls.invariant.within, c.calls.invariant.room, positions_few a.text.now a.needle.now, c.requires.small, c.requires.room)
+
+pub put_number-requires : goal.put_number-requires
+put_number-requires c =
+    let a = c.args in
+    let answer = sym c.in-Match.is ∙ c.next_match.ensures in (
+      match_small a.text.now a.needle.now c.requires.small c.requires.short c.calls.invariant c.in-Match.position c.in-Match.after answer,
+      rw (tail c.calls.page (c.calls.matches * 9), length-drop)
+          (omega (arith, c.calls.invariant.within, c.calls.invariant.room, positions_few a.text.now a.needle.now, c.requires.small, c.requires.room)),
     )
 
-pub after-tally-requires : goal.after-tally-requires
-after-tally-requires c =
-    let called : (Called c.args.text.now c.args.needle.now true c.loop-tally.tally.matches c.loop-tally.tally.cursor) = let a = c.args in let t = c.loop-tally.tally in subst (λ (b : Bool). Called a.text.now a.needle.now b t.matches t.cursor) c.loop-tally-test.true c.loop-tally.invariant.0 in
-    let few : (c.loop-tally.tally.matches ≤ 65536) = omega (arith, called.0, positions_few c.args.text.now c.args.needle.now) in
-    omega (arith, few)
+pub overflow_add-matches : goal.overflow_add-matches
+overflow_add-matches c =
+    let a = c.args in
+    omega (arith, c.calls.invariant.within, positions_few a.text.now a.needle.now, c.requires.small)
 
-pub loop-tally-smaller : goal.loop-tally-smaller
-loop-tally-smaller c =
-    let called : (Called c.args.text.now c.args.needle.now true c.loop-tally.tally.matches c.loop-tally.tally.cursor) = let a = c.args in let t = c.loop-tally.tally in subst (λ (b : Bool). Called a.text.now a.needle.now b t.matches t.cursor) c.loop-tally-test.true c.loop-tally.invariant.0 in
-    let next = c.next_in_bytes-next in
-    let turn : Turned c.args.text.now c.args.needle.now c.requires.small c.requires.short c.loop-tally.tally c.args.page.now c.after-tally.result c.put_match.new.page =
+pub calls-preserved : goal.calls-preserved
+calls-preserved c =
     let a = c.args in
-    turned a.text.now a.needle.now c.requires.small c.requires.short c.loop-tally.tally a.page.now next.result c.loop-tally.page c.put_match.new.page c.after-tally.result called c.loop-tally.invariant.2 next.ensures c.put_match.ensures c.after-tally.ensures in
-    let a = c.args in
-    let after = c.after-tally.result in
-    let t = c.loop-tally.tally in
-    subst (λ (b : Bool). calls_left a.text.now a.needle.now after.more after.matches < calls_left a.text.now a.needle.now b t.matches) (sym c.loop-tally-test.true) turn.2
+    matched a.text.now a.needle.now c.requires.small c.requires.short c.calls.invariant c.requires.room c.in-Match.position c.in-Match.after c.put_number.new.page (sym c.in-Match.is ∙ c.next_match.ensures) c.put_number.ensures
 
-pub loop-tally-preserved : goal.loop-tally-preserved
-loop-tally-preserved c =
-    let called : (Called c.args.text.now c.args.needle.now true c.loop-tally.tally.matches c.loop-tally.tally.cursor) = let a = c.args in let t = c.loop-tally.tally in subst (λ (b : Bool). Called a.text.now a.needle.now b t.matches t.cursor) c.loop-tally-test.true c.loop-tally.invariant.0 in
-    let next = c.next_in_bytes-next in
-    let turn : Turned c.args.text.now c.args.needle.now c.requires.small c.requires.short c.loop-tally.tally c.args.page.now c.after-tally.result c.put_match.new.page =
+pub returns-in-Absent : goal.returns-in-Absent
+returns-in-Absent c =
     let a = c.args in
-    turned a.text.now a.needle.now c.requires.small c.requires.short c.loop-tally.tally a.page.now next.result c.loop-tally.page c.put_match.new.page c.after-tally.result called c.loop-tally.invariant.2 next.ensures c.put_match.ensures c.after-tally.ensures in
-    (turn.0, c.put_match.auto.page ∙ c.loop-tally.invariant.1, turn.1)
+    found_all a.text.now a.needle.now c.requires.small c.requires.short c.calls.invariant c.in-Absent.last _ c.next_match.ensures c.in-Absent.is
 
-pub returns : goal.returns
-returns c =
+pub returns-in-Absent-2 : goal.returns-in-Absent-2
+returns-in-Absent-2 c =
     let a = c.args in
-    let t = c.loop-tally.tally in
-    found_all a.text.now a.needle.now c.requires.small c.requires.short t a.page.now c.loop-tally.page
-    (subst (λ (b : Bool). Called a.text.now a.needle.now b t.matches t.cursor) c.loop-tally-test.false c.loop-tally.invariant.0) c.loop-tally.invariant.2
+    found_all a.text.now a.needle.now c.requires.small c.requires.short c.calls.invariant c.in-Absent.last _ c.next_match.ensures c.in-Absent.is

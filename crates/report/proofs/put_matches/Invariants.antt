@@ -1,11 +1,13 @@
-use mathlib.Core.Path.{◌≡◌}
+-- The cursor is the one after as many calls as there are matches so far, and the page has their
+-- lines.
+use Prim.Native.Nat.{suc, ◌-◌}
 use lib.ListN.{length}
-use Rattle.report.proofs.Turns.{Called, calls_left, HasLines}
+use Rattle.search.specs.Positions.{positions}
+use Rattle.report.proofs.Turns.{Calling}
 use Rattle.report.proofs.put_matches.Given as goal
 
-abbrev pub invariant-loop-tally : goal.invariant-loop-tally
-invariant-loop-tally l =
-    Called l.text l.needle l.tally.more l.tally.matches l.tally.cursor × (length l.page ≡ length l.initial.page) × HasLines l.text l.needle l.initial.page l.page l.tally.matches
+abbrev pub invariant-calls : goal.invariant-calls
+invariant-calls l = Calling l.text l.needle l.initial.page l.matches l.cursor l.page
 
-abbrev pub decreases-loop-tally : goal.decreases-loop-tally
-decreases-loop-tally l = calls_left l.text l.needle l.tally.more l.tally.matches
+abbrev pub decreases-calls : goal.decreases-calls
+decreases-calls l = suc (length (positions l.text l.needle)) - l.matches

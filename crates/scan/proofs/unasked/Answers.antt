@@ -1,5 +1,4 @@
--- `scan::unasked` meets its contract. The invariant: the first k places of the rows are filled.
--- Assumes nothing.
+-- A row more is filled by its place. Assumes nothing.
 use mathlib.Core.Path.{refl}
 use native.Mathlib.Omega.{arith}
 use borrow.Author.Rules.{rules}
@@ -10,9 +9,9 @@ use Rattle.scan.proofs.unasked.Goals as goal
 
 pub loop-k-init : goal.loop-k-init
 unfolding tabulate
-loop-k-init c = (omega arith, search rules, refl)
+loop-k-init c = (refl, refl)
 
 pub loop-k-preserved : goal.loop-k-preserved
 loop-k-preserved c =
     let a = c.args in
-    (omega arith, search rules, fill c.loop-k.a c.loop-k.k (unasked_in a.b a.l) (unasked_in a.b a.l c.loop-k.k) (omega arith) c.loop-k.invariant.2 refl)
+    (search rules, fill c.loop-k.a c.loop-k.k (unasked_in a.b a.l) (unasked_in a.b a.l c.loop-k.k) (omega arith) c.loop-k.invariant.1 refl)

@@ -1,4 +1,4 @@
-use Prim.Native.Nat.{◌-◌, ◌≤◌}
+-- The first i places are filled, the others empty.
 use mathlib.Core.Path.{◌≡◌}
 use lib.ListN.{get_or}
 use Rattle.entries.specs.Entries.{empty_entry, no_entry}
@@ -7,7 +7,4 @@ use Rattle.schedule.proofs.gathered.Given as goal
 
 abbrev pub invariant-loop-i : goal.invariant-loop-i
 invariant-loop-i l =
-    (l.i ≤ l.count) × (l.out ≡ filling 200 empty_entry (λ j. get_or l.entries (get_or l.places j 0) no_entry) l.i)
-
-abbrev pub decreases-loop-i : goal.decreases-loop-i
-decreases-loop-i l = l.count - l.i
+    (l.day.count ≡ l.count) × (l.day.entries ≡ filling 200 empty_entry (λ j. get_or l.entries (get_or l.places j 0) no_entry) l.i)

@@ -1,5 +1,4 @@
--- `schedule::number_twice` meets its contract. The invariant: no number before i has stood before.
--- Assumes nothing.
+-- A number that stands before its own place is found there, as the definition looks for it.
 use mathlib.Core.Path.{◌≡◌, sym, ◌∙◌}
 use mathlib.Core.Bool.{false}
 use native.Mathlib.Omega.{arith}
@@ -13,15 +12,14 @@ returns-then-stands_in c =
     let n = c.numbers_of-numbers in
     sym (any_at (seen_in n.result) c.args.count l.i (omega arith)
     (sym (seen_before n.result l.i (omega (arith, c.requires))) ∙ sym c.stands_in.ensures ∙ c.if-stands_in.true))
-    ∙ twice_by_numbers c.args.entries n.result c.args.count c.requires n.ensures
+    ∙ twice_by_numbers c.args.entries.now n.result c.args.count c.requires n.ensures
 
 pub loop-i-preserved : goal.loop-i-preserved
 loop-i-preserved c =
     let l = c.loop-i in
     let n = c.numbers_of-numbers in (
-      omega arith,
-      l.invariant.1,
-      any_next (seen_in n.result) l.i false l.invariant.2
+      l.invariant.0,
+      any_next (seen_in n.result) l.i false l.invariant.1
           (sym (seen_before n.result l.i (omega (arith, c.requires))) ∙ sym c.stands_in.ensures ∙ c.if-stands_in.false),
     )
 
@@ -30,4 +28,4 @@ returns c =
     let l = c.loop-i in
     let n = c.numbers_of-numbers in
     let e : l.i ≡ c.args.count = omega arith in
-    rw e at l.invariant.2 ∙ twice_by_numbers c.args.entries n.result c.args.count c.requires n.ensures
+    rw e at l.invariant.1 ∙ twice_by_numbers c.args.entries.now n.result c.args.count c.requires n.ensures

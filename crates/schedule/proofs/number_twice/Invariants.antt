@@ -1,4 +1,4 @@
-use Prim.Native.Nat.{◌-◌, ◌≤◌}
+-- No number before i has stood before.
 use mathlib.Core.Path.{◌≡◌}
 use mathlib.Core.Bool.{false}
 use lib.ListN.{length}
@@ -7,7 +7,4 @@ use Rattle.schedule.proofs.Twice.{seen_in}
 use Rattle.schedule.proofs.number_twice.Given as goal
 
 abbrev pub invariant-loop-i : goal.invariant-loop-i
-invariant-loop-i l = (l.i ≤ l.count) × (length l.numbers ≡ 200) × (false ≡ any_below l.i (seen_in l.numbers))
-
-abbrev pub decreases-loop-i : goal.decreases-loop-i
-decreases-loop-i l = l.count - l.i
+invariant-loop-i l = (length l.numbers ≡ 200) × (false ≡ any_below l.i (seen_in l.numbers))

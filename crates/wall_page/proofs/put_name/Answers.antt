@@ -1,5 +1,4 @@
--- `wall_page::put_name` meets its contract. The invariant: the first i columns are written. Assumes
--- nothing.
+-- All 32 columns are written.
 use mathlib.Core.Path.{◌≡◌, refl}
 use native.Mathlib.Omega.{arith}
 use lib.ListN.{length-set}
@@ -9,17 +8,17 @@ use Rattle.wall_page.proofs.put_name.Goals as goal
 
 pub loop-i-init : goal.loop-i-init
 unfolding tabulate
-loop-i-init c = (omega arith, refl, refl)
+loop-i-init c = (refl, refl)
 
 pub loop-i-preserved : goal.loop-i-preserved
 loop-i-preserved c =
     let l = c.loop-i in
     let a = c.args in
-    (omega arith, simp length-set l.invariant.1, name_more (name_byte a.name a.size) a.page.now l.page l.i c.name_byte.result (omega (arith, c.requires.room)) l.invariant.2 c.name_byte.ensures)
+    (simp length-set l.invariant.0, name_more (name_byte a.name a.size) a.page.now l.page l.i c.name_byte.result (omega (arith, c.requires.room)) l.invariant.1 c.name_byte.ensures)
 
 pub returns : goal.returns
 returns c =
     let l = c.loop-i in
     let a = c.args in
     let e : l.i ≡ 32 = omega arith in
-    rw (e, name_made a.name a.size (omega (arith, c.requires.short)) c.requires.short) at l.invariant.2
+    rw (e, name_made a.name a.size (omega (arith, c.requires.short)) c.requires.short) at l.invariant.1

@@ -1,4 +1,4 @@
-use Prim.Native.Nat.{◌-◌, ◌≤◌}
+-- The first i columns are written.
 use mathlib.Core.Path.{◌≡◌}
 use mathlib.Core.List.{◌++◌}
 use lib.ListN.{length, drop}
@@ -8,7 +8,4 @@ use Rattle.wall_page.proofs.put_name.Given as goal
 
 abbrev pub invariant-loop-i : goal.invariant-loop-i
 invariant-loop-i l =
-    (l.i ≤ 32) × (length l.page ≡ length l.initial.page) × (l.page ≡ tabulate l.i (name_byte l.name l.size) ++ drop l.i l.initial.page)
-
-abbrev pub decreases-loop-i : goal.decreases-loop-i
-decreases-loop-i l = 32 - l.i
+    (length l.page ≡ length l.initial.page) × (l.page ≡ tabulate l.i (name_byte l.name l.size) ++ drop l.i l.initial.page)

@@ -1,11 +1,8 @@
-use Prim.Native.Nat.{◌≤◌, ◌-◌, ◌/◌, ◌%◌, ◌^◌}
+use Prim.Native.Nat.{◌/◌, ◌%◌, ◌^◌}
 use mathlib.Core.Path.{◌≡◌}
 use Rattle.bits.specs.Bits.{number_of}
 use Rattle.unit.proofs.Modes.{standing_to}
 use Rattle.modes.proofs.bytes.equal_ordered.Given as goal
 
 abbrev pub invariant-loop-i : goal.invariant-loop-i
-invariant-loop-i l = (l.i ≤ l.l1) × (l.left / 2 ^ l.i % 2 ^ 16 ≡ number_of 16 (standing_to 16 l.x1 l.l1 l.x2 l.l2 l.i))
-
-abbrev pub decreases-loop-i : goal.decreases-loop-i
-decreases-loop-i l = l.l1 - l.i
+invariant-loop-i l = l.left / 2 ^ l.i % 2 ^ 16 ≡ number_of 16 (standing_to 16 l.x1 l.l1 l.x2 l.l2 l.i)

@@ -10,19 +10,19 @@ use Rattle.modes.proofs.words.equal_ordered.Goals as goal
 
 pub loop-i-init : goal.loop-i-init
 loop-i-init c =
-    (omega arith, ordered_start 8 c.args.x1.now c.args.l1 c.args.x2.now c.args.l2 (omega arith) c.requires.0 c.requires.1 _ eight_ones)
+    ordered_start 8 c.args.x1.now c.args.l1 c.args.x2.now c.args.l2 (omega arith) c.requires.0 c.requires.1 _ eight_ones
 
 pub returns-then-left-i : goal.returns-then-left-i
 returns-then-left-i c =
     ordered_none 8 c.args.x1.now c.args.l1 c.args.x2.now c.args.l2 (omega arith) c.requires.0 c.requires.1 (c.loop-i.i + 1) _
-    (ordered_more 8 c.args.x1.now c.args.l1 c.args.x2.now c.args.l2 (omega arith) c.requires.0 c.requires.1 c.loop-i.i c.loop-i-test.true c.same_words.result c.first-valid.result _ c.loop-i.left c.same_words.ensures c.first-valid.ensures past_eight c.loop-i.invariant.1)
+    (ordered_more 8 c.args.x1.now c.args.l1 c.args.x2.now c.args.l2 (omega arith) c.requires.0 c.requires.1 c.loop-i.i c.loop-i-test.true c.same.result c.args.valid _ c.loop-i.left c.same.ensures c.requires.2 past_eight c.loop-i.invariant)
     (omega arith)
 
 pub loop-i-preserved : goal.loop-i-preserved
 loop-i-preserved c =
-    (omega arith, ordered_more 8 c.args.x1.now c.args.l1 c.args.x2.now c.args.l2 (omega arith) c.requires.0 c.requires.1 c.loop-i.i c.loop-i-test.true c.same_words.result c.first-valid.result _ c.loop-i.left c.same_words.ensures c.first-valid.ensures past_eight c.loop-i.invariant.1)
+    ordered_more 8 c.args.x1.now c.args.l1 c.args.x2.now c.args.l2 (omega arith) c.requires.0 c.requires.1 c.loop-i.i c.loop-i-test.true c.same.result c.args.valid _ c.loop-i.left c.same.ensures c.requires.2 past_eight c.loop-i.invariant
 
 pub returns : goal.returns
 returns c =
-    c.loop-i.invariant.1
+    c.loop-i.invariant
     ∙ ordered_end 8 c.args.x1.now c.args.l1 c.args.x2.now c.args.l2 (omega arith) c.requires.0 c.requires.1 c.loop-i.i c.loop-i-test.false

@@ -1,11 +1,7 @@
-use Prim.Native.Nat.{◌≤◌, ◌-◌}
 use mathlib.Core.Path.{◌≡◌}
 use Rattle.bits.specs.Bits.{number_of}
 use Rattle.unit.proofs.Modes.{standing_to}
 use Rattle.modes.proofs.words.equal_ordered.Given as goal
 
 abbrev pub invariant-loop-i : goal.invariant-loop-i
-invariant-loop-i l = (l.i ≤ l.l1) × (l.left ≡ number_of 8 (standing_to 8 l.x1 l.l1 l.x2 l.l2 l.i))
-
-abbrev pub decreases-loop-i : goal.decreases-loop-i
-decreases-loop-i l = l.l1 - l.i
+invariant-loop-i l = l.left ≡ number_of 8 (standing_to 8 l.x1 l.l1 l.x2 l.l2 l.i)

@@ -1,17 +1,13 @@
--- `modes::words::implicit` meets its contract: it hands on the elements and effective lengths that
--- the definition names. Assumes nothing.
+-- `modes::words::implicit` meets its contract: the first zero element is where an operand ends.
+-- Assumes nothing.
+use Rattle.std.proofs.Common.{refl}
 use Rattle.unit.specs.Operand.{in_words}
-use Rattle.bits.proofs.Below.{least_within}
 use Rattle.unit.proofs.Unit.{implicit_is, words_count}
 use Rattle.modes.proofs.words.implicit.Goals as goal
-
-pub compared-requires : goal.compared-requires
-compared-requires c =
-    (c.requires, rw c.implicit_length-l1.ensures (least_within 8 _), rw c.implicit_length-l2.ensures (least_within 8 _))
 
 pub returns : goal.returns
 returns c =
     let a = c.args in
-    let f = c.implicit_length-l1 in
-    let g = c.implicit_length-l2 in
-    implicit_is a.k in_words a.operand1 a.operand2 c.words_of-x1.result f.result c.words_of-x2.result g.result c.compared.result c.requires c.words_of-x1.ensures (rw c.words_of-x1.ensures (words_count a.operand1)) f.ensures c.words_of-x2.ensures (rw c.words_of-x2.ensures (words_count a.operand2)) g.ensures c.compared.ensures
+    let f = c.words_of-x1 in
+    let h = c.words_of-x2 in
+    implicit_is a.k in_words a.operand1 a.operand2 f.result _ h.result _ c.implicit.result c.requires f.ensures (rw f.ensures (words_count a.operand1)) refl h.ensures (rw h.ensures (words_count a.operand2)) refl c.implicit.ensures

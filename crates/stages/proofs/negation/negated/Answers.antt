@@ -14,20 +14,17 @@ returns-in-Positive c = rw c.in-Positive.is (no_bits (count c.args.words))
 
 pub returns-in-Negative : goal.returns-in-Negative
 returns-in-Negative c =
-    let counted = c in
-    let a = counted.args in
+    let a = c.args in
     rw c.in-Negative.is
     (negated_all (count a.words) a.l2 c.first.result (count_most a.words)
-    (c.first.ensures ∙ ap (λ (n : ℕ). number_of 16 (λ j. ltb j n)) counted.count_of-b.ensures))
+    (c.first.ensures ∙ ap (λ (n : ℕ). number_of 16 (λ j. ltb j n)) c.count_of-b.ensures))
 
 pub returns-in-MaskedPositive : goal.returns-in-MaskedPositive
 returns-in-MaskedPositive c = rw c.in-MaskedPositive.is (no_bits (count c.args.words))
 
 pub returns-in-MaskedNegative : goal.returns-in-MaskedNegative
 returns-in-MaskedNegative c =
-    let cut = c in
-    let counted = cut in
-    let a = counted.args in
+    let a = c.args in
     rw c.in-MaskedNegative.is
     (negated_valid (count a.words) a.l2 c.first-in-MaskedNegative.result (count_most a.words)
-    (c.first-in-MaskedNegative.ensures ∙ ap (λ (n : ℕ). number_of 16 (λ j. ltb j n)) (cut.min.ensures ∙ ap (λ (n : ℕ). min n a.l2) counted.count_of-b.ensures)))
+    (c.first-in-MaskedNegative.ensures ∙ ap (λ (n : ℕ). number_of 16 (λ j. ltb j n)) (c.min.ensures ∙ ap (λ (n : ℕ). min n a.l2) c.count_of-b.ensures)))

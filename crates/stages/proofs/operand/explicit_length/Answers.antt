@@ -10,6 +10,4 @@ use Rattle.stages.proofs.operand.explicit_length.Goals as goal
 pub returns : goal.returns
 unfolding explicit_length
 returns c =
-    let b = c.count_of in
-    let s = c in
-    omega (arith, c.min.ensures, b.ensures, count_most s.args.words, rw (to_z-of_z w64 s.args.length s.ranges.length) at c.magnitude.ensures)
+    omega (arith, c.min.ensures, c.count_of.ensures, count_most c.args.words, rw (to_z-of_z w64 c.args.length c.ranges.length) at c.magnitude.ensures)

@@ -1,4 +1,3 @@
-use Prim.Native.Nat.{◌≤◌, ◌-◌}
 use mathlib.Core.Path.{◌≡◌}
 use lib.ListN.{length, take}
 use Rattle.bits.specs.Bits.{tabulate}
@@ -6,7 +5,4 @@ use Rattle.unit.specs.Operand.{word_at}
 use Rattle.stages.proofs.operand.words_of.Given as goal
 
 abbrev pub invariant-loop-i : goal.invariant-loop-i
-invariant-loop-i l = (l.i ≤ 8) × (length l.a ≡ 8) × (take l.i l.a ≡ tabulate l.i (word_at l.x))
-
-abbrev pub decreases-loop-i : goal.decreases-loop-i
-decreases-loop-i l = 8 - l.i
+invariant-loop-i l = (length l.a ≡ 8) × (take l.i l.a ≡ tabulate l.i (word_at l.x))

@@ -1,0 +1,14 @@
+-- The operands are those of the two parts, and the lengths theirs. Assumes nothing.
+use mathlib.Core.Path.{◌∙◌, ap}
+use lib.IntN.{pos}
+use native.Mathlib.Omega.{arith}
+use Rattle.blocks.specs.Blocks.{each_negated}
+use Rattle.blocks.proofs.Compares.{compare_called}
+use Rattle.blocks.proofs.differ_at.Goals as goal
+
+pub returns : goal.returns
+returns g c =
+    let a = c.args in
+    let long = g.T.Element.reads.long in
+    c.differ_index.ensures
+    ∙ compare_called g.T.Element.words each_negated (g.T.Element.numbers a.x.now) (g.T.Element.numbers a.y.now) _ _ _ _ c.whole.ensures (ap pos (omega (arith, long a.x.now))) c.whole-2.ensures (ap pos (omega (arith, long a.y.now)))

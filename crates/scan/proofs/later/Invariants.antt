@@ -1,0 +1,10 @@
+-- The blocks passed have index b.
+use Prim.Native.Nat.{◌-◌}
+use Rattle.scan.specs.Letters.{Passed}
+use Rattle.scan.proofs.later.Given as goal
+
+abbrev pub invariant-loop-i : goal.invariant-loop-i
+invariant-loop-i g l = Passed g.T.Element.words l.operand1 l.l (g.T.Element.numbers l.part) l.i
+
+abbrev pub decreases-loop-i : goal.decreases-loop-i
+decreases-loop-i g l = l.whole - l.i
