@@ -31,18 +31,24 @@
 
 #include "hirtxonda.h"
 
-/* The bytes of stack that each call takes at most, as stated in docs/PERFORMANCE.md, "Stack". */
+/* The bytes of stack that each call takes at most, as stated in docs/PERFORMANCE.md, "Stack"; and
+ * what the calls are held to that take so much less that a scratch copy would fit in beside
+ * them. */
 #if defined(__x86_64__)
 #define EXPLICIT_STACK 216u
+#define EXPLICIT_TAKES 216u
 #define IMPLICIT_STACK 224u
 #define DAY_STACK 41272u
 #define PAGE_STACK 16088u
+#define PAGE_TAKES 8088u
 #define RETURN_ADDRESS 8u
 #elif defined(__aarch64__)
-#define EXPLICIT_STACK 376u
+#define EXPLICIT_STACK 408u
+#define EXPLICIT_TAKES 376u
 #define IMPLICIT_STACK 320u
 #define DAY_STACK 41392u
 #define PAGE_STACK 16112u
+#define PAGE_TAKES 8112u
 #define RETURN_ADDRESS 0u
 #else
 #error "no stack is stated for this processor"
@@ -626,11 +632,11 @@ static void selftest(void)
     const subject wrong_pages[] = {PAGE(exchanged_page), PAGE(ended_page), PAGE(written_page)};
     size_t explicit_more = taken(EXPLICIT(scratch_explicit)), implicit_more = taken(IMPLICIT(scratch_implicit));
     size_t day_more = taken(DAY(scratch_day)), page_more = taken(PAGE(scratch_page));
-    if (explicit_more <= EXPLICIT_STACK || implicit_more <= IMPLICIT_STACK)
+    if (explicit_more <= EXPLICIT_TAKES || implicit_more <= IMPLICIT_STACK)
         fail("a scratch copy was not found: it takes", implicit_more);
     if (day_more <= DAY_STACK)
         fail("a scratch copy of a day was not found: it takes", day_more);
-    if (page_more <= PAGE_STACK)
+    if (page_more <= PAGE_TAKES)
         fail("a scratch copy of a line was not found: it takes", page_more);
     selftest_of(IMPLICIT_STACK, IMPLICIT(hx_pcmpistrm), IMPLICIT(deep_implicit), masks, 3);
     selftest_of(DAY_STACK, DAY(hx_day_of_parts), DAY(deep_day), wrong_days, 3);
@@ -643,13 +649,13 @@ static void selftest(void)
 /* Each call takes no more than is stated, and has enough with that. */
 static void hold_to_stated(size_t explicit_taken, size_t implicit_taken, size_t day_taken, size_t page_taken)
 {
-    if (explicit_taken > EXPLICIT_STACK)
+    if (explicit_taken > EXPLICIT_TAKES)
         fail("hx_pcmpestrm takes", explicit_taken);
     if (implicit_taken > IMPLICIT_STACK)
         fail("hx_pcmpistrm takes", implicit_taken);
     if (day_taken > DAY_STACK)
         fail("hx_day_of takes", day_taken);
-    if (page_taken > PAGE_STACK)
+    if (page_taken > PAGE_TAKES)
         fail("hx_day_page takes", page_taken);
     run_small(EXPLICIT_STACK, EXPLICIT(hx_pcmpestrm));
     run_small(IMPLICIT_STACK, IMPLICIT(hx_pcmpistrm));

@@ -1,14 +1,14 @@
 // Compares of a whole block for equality: bit j of a result belongs to element j of a block of
 // sixteen bytes or eight words.
 //
-// Public calls: `alike` compares two blocks, `same` a block with one element. Each asks that a
-// block has as many elements as an operand.
+// Public calls: `alike` compares two blocks, `same` a block with one element. None asks anything of
+// its arguments.
 #![tactic(auto)]
 
 ghost use Rattle.std.specs.Prelude.{◌≡◌, ◌+◌, ◌*◌, ◌<◌, ◌≤◌, eqb, get_or};
 ghost use Rattle.bits.specs.Bits.{eight_bits, number_of};
 
-use unit::Element;
+use unit::{Block, Element};
 
 // Whether the elements at one place are equal.
 fn equal_at<T: Element, const N: usize>(x: &[T; N], y: &[T; N], at: usize) -> bool
@@ -43,8 +43,7 @@ fn eight<T: Element, const N: usize>(above: u32, x: &[T; N], y: &[T; N], at: usi
 }
 
 // Bit j: x[j] is y[j].
-pub fn alike<T: Element, const N: usize>(x: &[T; N], y: &[T; N]) -> u32
-    requires { N ≡ T.COUNT }
+pub fn alike<T: Block<N>, const N: usize>(x: &[T; N], y: &[T; N]) -> u32
     ensures { result
         ≡ number_of N
         (λ j. eqb (get_or (T.numbers x.now) j 0) (get_or (T.numbers y.now) j 0)) }
@@ -56,8 +55,7 @@ pub fn alike<T: Element, const N: usize>(x: &[T; N], y: &[T; N]) -> u32
 }
 
 // Bit j: x[j] is y.
-pub fn same<T: Element, const N: usize>(x: &[T; N], y: T) -> u32
-    requires { N ≡ T.COUNT }
+pub fn same<T: Block<N>, const N: usize>(x: &[T; N], y: T) -> u32
     ensures { result
         ≡ number_of N
         (λ j. eqb (get_or (T.numbers x.now) j 0) (T.number y)) }

@@ -6,6 +6,8 @@ use mathlib.Core.Bool.{Bool, true, false, cond, not, ◌&&◌, ◌||◌}
 use native.Mathlib.Nat.{add-zero, zero-add, add-suc, suc-add, zero-div, one-mul, mod-eq_of_lt}
 use native.Mathlib.Omega.{arith}
 use lib.Dec.{eqb, ltb}
+use Rattle.std.specs.Prelude.{Option, Some, None}
+use Rattle.std.specs.Option.{unwrap_or}
 use lib.ListN.{get_or, replicate, get_or-replicate}
 use mathlib.Core.List.{List}
 use lib.Pow.{pow_pos, pow-lt, shr-shr, field, mod-mod-pow}
@@ -247,6 +249,15 @@ greatest_by_test b n p false h e q =
 pub greatest_read : (b n : ℕ) (p : ℕ → Bool) → b ≤ 32 → n ≡ number_of b p → cond (eqb n 0) b (31 - count_leading_zeros 32 n) ≡ greatest_below b p b
 unfolding number_of greatest_below
 greatest_read b n p h e = greatest_by_test b n p (eqb n 0) h e refl
+
+found_or : (t : Bool) (x b : ℕ) → unwrap_or (cond t None (Some x)) b ≡ cond t b x
+found_or true x b = refl
+found_or false x b = refl
+
+-- the least set bit that is found, or b
+pub least_or : (b n : ℕ) (o : Option ℕ) (p : ℕ → Bool) → b ≤ 32 → n ≡ number_of b p → o ≡ cond (eqb n 0) None (Some (count_trailing_zeros 32 n)) → unwrap_or o b ≡ least_below b p
+unfolding number_of least_below
+least_or b n o p h e q = rw q (found_or (eqb n 0) (count_trailing_zeros 32 n) b ∙ least_read b n p h e)
 
 -- ---- the low bits, as the code makes them
 

@@ -1,10 +1,10 @@
 // Bits kept in one number: bit j of a number belongs to element j of a block.
 //
-// Public calls: `first` is the low n bits, `least` and `greatest` find a set bit; `min` is the
-// lesser of two numbers. None asks anything of its arguments.
+// Public calls: `first` is the low n bits, `least` and `greatest` find a set bit. None asks
+// anything of its arguments.
 #![tactic(auto)]
 
-ghost use Rattle.std.specs.Prelude.{◌≡◌, cond, ◌-◌, min, eqb, ltb};
+ghost use Rattle.std.specs.Prelude.{◌≡◌, cond, ◌-◌, eqb, ltb, Some, None};
 ghost use Rattle.std.specs.Int.Count.{count_leading_zeros, count_trailing_zeros};
 ghost use Rattle.bits.specs.Bits.{number_of};
 
@@ -19,31 +19,24 @@ pub fn first(n: usize) -> u32
     }
 }
 
-// The least set bit of a number, or none.
-pub fn least(number: u32, none: u32) -> u32
-    ensures { result ≡ cond (eqb number 0) none (count_trailing_zeros 32 number) }
+// The least set bit of a number, if it has one.
+pub fn least(number: u32) -> Option<u32>
+    ensures { result ≡ cond (eqb number 0) None (Some (count_trailing_zeros 32 number)) }
 {
     if number == 0 {
-        none
+        None
     } else {
-        u32::trailing_zeros(number)
+        Some(number.trailing_zeros())
     }
 }
 
-// The greatest set bit of a number, or none.
-pub fn greatest(number: u32, none: u32) -> u32
-    ensures { result ≡ cond (eqb number 0) none (31 - count_leading_zeros 32 number) }
+// The greatest set bit of a number, if it has one.
+pub fn greatest(number: u32) -> Option<u32>
+    ensures { result ≡ cond (eqb number 0) None (Some (31 - count_leading_zeros 32 number)) }
 {
     if number == 0 {
-        none
+        None
     } else {
-        31 - u32::leading_zeros(number)
+        Some(31 - number.leading_zeros())
     }
-}
-
-// The lesser of two numbers.
-pub fn min(a: usize, b: usize) -> usize
-    ensures { result ≡ min a b }
-{
-    if b < a { b } else { a }
 }

@@ -1,10 +1,11 @@
 -- How a loop fills an operand over zeros: after k stores its first k bytes are there, and past a
 -- part's end every byte is zero. Assumes nothing.
-use Prim.Native.Nat.{ℕ, zero, suc, ◌+◌, ◌*◌, ◌/◌, ◌%◌, ◌≤◌, ◌<◌, min}
+use Prim.Native.Nat.{ℕ, zero, suc, ◌+◌, ◌*◌, ◌/◌, ◌%◌, ◌^◌, ◌≤◌, ◌<◌, min}
 use mathlib.Core.Path.{◌≡◌, refl, sym, ap, ◌∙◌}
 use mathlib.Core.Bool.{Bool, true, false, cond}
 use mathlib.Core.List.{List}
 use lib.Dec.{eqb, ltb}
+use Rattle.std.specs.Int.{to_le_bytes, w16}
 use lib.ListN.{length, get_or, set, replicate, length-set, get_or-eq_default}
 use lib.Seq.{ext_get_or, get_or-set_same, get_or-set_other}
 use native.Mathlib.Omega.{arith}
@@ -103,3 +104,11 @@ filled_zeros false x a n h e =
 filled_zeros true x a n h e =
     let k = 2 * min n 8 in
     all_stored (operand_byte in_words x) a k (e ∙ stores_zeros (operand_byte in_words x) k (omega arith)) (λ j u v. past_words x j (omega arith))
+
+-- the two bytes of a word, low byte first
+module _ (n : ℕ) (b : List ℕ) (h : n < 2 ^ 16) (e : b ≡ to_le_bytes w16 n) where
+  pub of_low : get_or b 0 0 ≡ n % 256
+  of_low = rw e refl
+
+  pub of_high : get_or b 1 0 ≡ n / 256
+  of_high = rw e (let q : n / 256 % 256 ≡ n / 256 = omega arith in q)

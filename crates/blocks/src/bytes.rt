@@ -1,11 +1,12 @@
-// A text in bytes.
+// A text in bytes. `block` reads with no test between, which becomes one load (docs/PERFORMANCE.md,
+// "Operands"). `fill` is a loop, as that of words is, since one law of stores is said of both.
 ghost use Rattle.std.specs.Prelude.{◌≡◌};
 
 use crate::Letter;
 
 impl Letter for u8 {
     fn value(self, signed: bool) -> i32 {
-        modes::bytes::value(signed, self) as i32
+        modes::bytes::value(signed, self)
     }
 
     fn read(operand: &[u8; 16], i: usize) -> u8 {

@@ -3,7 +3,7 @@
 //
 // Public calls: `whole` and `padded` make the operand of a part; `differ_at` is a compare of two
 // parts; `Letter` has what they need to know of a byte or a word. None asks anything of its
-// arguments but `Letter::block`, which reads a block. `whole` and `padded` say the same: of a part
+// arguments but `Letter::block` and `Letter::read`. `whole` and `padded` say the same: of a part
 // that is too long the first sixteen bytes, or eight words, are taken. `whole` is the quick one
 // where the part is a whole block, `padded` where it is shorter.
 #![tactic(auto)]
@@ -39,8 +39,9 @@ pub fn padded<T: Letter>(part: &[T]) -> [u8; 16]
     operand
 }
 
-// The first place where two parts differ, or b. A part that ends before the other differs there.
-// The two ways of filling stay apart for speed (docs/PERFORMANCE.md).
+// The first place where two parts differ, or b, which is the unit's own index for none
+// (`compare_index`), and so no Option. A part that ends before the other differs there. The two
+// ways of filling stay apart for speed (docs/PERFORMANCE.md).
 pub fn differ_at<T: Letter>(x: &[T], y: &[T]) -> u32
     ensures { result ≡ compare_index T.words each_negated (T.numbers x.now) (T.numbers y.now) }
 {

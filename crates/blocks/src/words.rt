@@ -1,21 +1,5 @@
 // A text in words, the low byte of each first.
-ghost use Rattle.std.specs.Prelude.{◌≡◌, ◌/◌, ◌%◌};
-
 use crate::Letter;
-use stages::operand::word;
-
-// The low byte of a word, and the high one.
-fn low(word: u16) -> u8
-    ensures { result ≡ word % 256 }
-{
-    (word % 256) as u8
-}
-
-fn high(word: u16) -> u8
-    ensures { result ≡ word / 256 }
-{
-    (word / 256) as u8
-}
 
 impl Letter for u16 {
     fn value(self, signed: bool) -> i32 {
@@ -23,27 +7,20 @@ impl Letter for u16 {
     }
 
     fn read(operand: &[u8; 16], i: usize) -> u16 {
-        word(operand[2 * i], operand[2 * i + 1])
+        u16::from_le_bytes([operand[2 * i], operand[2 * i + 1]])
     }
 
     fn block(part: &[u16]) -> [u8; 16] {
+        let [l0, h0] = part[0].to_le_bytes();
+        let [l1, h1] = part[1].to_le_bytes();
+        let [l2, h2] = part[2].to_le_bytes();
+        let [l3, h3] = part[3].to_le_bytes();
+        let [l4, h4] = part[4].to_le_bytes();
+        let [l5, h5] = part[5].to_le_bytes();
+        let [l6, h6] = part[6].to_le_bytes();
+        let [l7, h7] = part[7].to_le_bytes();
         [
-            low(part[0]),
-            high(part[0]),
-            low(part[1]),
-            high(part[1]),
-            low(part[2]),
-            high(part[2]),
-            low(part[3]),
-            high(part[3]),
-            low(part[4]),
-            high(part[4]),
-            low(part[5]),
-            high(part[5]),
-            low(part[6]),
-            high(part[6]),
-            low(part[7]),
-            high(part[7]),
+            l0, h0, l1, h1, l2, h2, l3, h3, l4, h4, l5, h5, l6, h6, l7, h7,
         ]
     }
 
@@ -51,8 +28,9 @@ impl Letter for u16 {
         let n = part.len().min(8);
         for i in 0..n {
             let at = 2 * i;
-            operand[at] = low(part[i]);
-            operand[at + 1] = high(part[i]);
+            let [low, high] = part[i].to_le_bytes();
+            operand[at] = low;
+            operand[at + 1] = high;
         }
     }
 

@@ -4,7 +4,7 @@ use Rattle.std.specs.Prelude.{ℕ, ◌+◌, ◌≡◌, Bool, cond, not, List, []
 use Rattle.std.specs.Result.{result_and}
 use Rattle.std.specs.declared.cmp.Ordering.{Ordering}
 use Rattle.refusals.specs.declared.Refusal.{Refusal}
-use Rattle.refusals.specs.Numbers.{number_of}
+use Rattle.refusals.specs.Numbers.{status}
 use Rattle.unit.specs.declared.Flags.{Flags}
 use Rattle.unit.specs.declared.IndexAnswer.{IndexAnswer}
 use Rattle.unit.specs.declared.MaskAnswer.{MaskAnswer}
@@ -22,11 +22,6 @@ use Rattle.entries.specs.declared.Entry.{Entry}
 use Rattle.wall_page.specs.Pages.{page_refusal, page_after}
 use Rattle.worst_case.specs.Cases.{case_refusal, buffer_after}
 use Rattle.schedule.specs.declared.Day.{Day}
-
--- what a call returns: 0, or the number that refuses it
-abbrev pub status : {A : Type 0} → Result A Refusal → ℕ
-status (Ok x) = 0
-status (Err r) = number_of r
 
 -- what stands behind a pointer after it: what is told of the answer, or what stood there
 abbrev pub after : {A B : Type 0} → (A → B) → Result A Refusal → B → B

@@ -22,7 +22,7 @@ fn give_day(
             *count = made.count as u64;
             0
         }
-        Err(refusal) => refusal.number(),
+        Err(refusal) => u32::from(refusal),
     }
 }
 
@@ -39,7 +39,7 @@ pub extern "C" fn hx_day_of_parts(
 {
     let n = entries.len();
     if n > entries::MOST_ENTRIES {
-        return Refusal::Count.number();
+        return u32::from(Refusal::Count);
     }
     give_day(schedule::day_of(layout::entries_of(entries), n), day, count)
 }

@@ -19,7 +19,8 @@ const SIGN: u32 = 0x080;
 
 const OVERFLOW: u32 = 0x800;
 
-// The flags as one number.
+// The flags as one number. Neither type is of this crate, so it can't be a `From` (Rust's orphan
+// rule), and in `unit` the register's bits would stand where there is no register.
 #[tactic(auto, unfolding(crate::specs::Crossing::eflags))]
 fn eflags(f: Flags) -> u32
     ensures { result ≡ eflags f }
@@ -32,7 +33,8 @@ fn eflags(f: Flags) -> u32
         + weighed(f.overflow, OVERFLOW)
 }
 
-// Hands an index call's answer to the caller.
+// Hands an index call's answer to the caller. The unit's definitions of the instructions have two
+// answers, one with an index and one with a mask, so `give_mask` stands beside it.
 fn give_index(answer: IndexAnswer, index: &mut u32, flags: &mut u32) -> u32
     ensures { IndexGiven answer index.old flags.old result
         index.new flags.new }
@@ -138,6 +140,9 @@ pub extern "C" fn hx_pcmpistrm(
         flags,
     )
 }
+
+// C has no generics, so 0Ch and 18h, in bytes, and 0Dh and 19h, in words, have each a name of its
+// own.
 
 // The index of PCMPESTRI at control 0Ch: equal ordered, unsigned bytes.
 #[unsafe(no_mangle)]

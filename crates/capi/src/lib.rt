@@ -20,7 +20,8 @@ mod walk;
 mod worst;
 
 ghost use Rattle.std.specs.Prelude.{◌≡◌, cond, ◌≤◌};
-ghost use Rattle.capi.specs.Crossing.{Given, status, truth};
+ghost use Rattle.refusals.specs.Numbers.{status};
+ghost use Rattle.capi.specs.Crossing.{Given, truth};
 
 use refusals::Refusal;
 
@@ -31,7 +32,7 @@ fn truth(n: u32) -> bool
     n != 0
 }
 
-// A bit of this weight, set or not.
+// A bit of this weight, set or not. A choice and no product: `set as u32 * weight` says no more.
 fn weighed(set: bool, weight: u32) -> u32
     ensures { (result ≡ cond set weight 0) × (result ≤ weight) }
 {
@@ -44,7 +45,7 @@ fn status(answer: Result<(), Refusal>) -> u32
 {
     match answer {
         Ok(_) => 0,
-        Err(refusal) => refusal.number(),
+        Err(refusal) => u32::from(refusal),
     }
 }
 
@@ -57,6 +58,6 @@ fn give<T: Copy>(answer: Result<T, Refusal>, place: &mut T) -> u32
             *place = told;
             0
         }
-        Err(refusal) => refusal.number(),
+        Err(refusal) => u32::from(refusal),
     }
 }

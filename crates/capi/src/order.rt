@@ -10,7 +10,8 @@ use crate::{give, truth};
 use blocks::Letter;
 use std::cmp::Ordering;
 
-// An order as document 01's number.
+// An order as document 01's number. Neither type is of this crate, so it can't be a `From` (Rust's
+// orphan rule).
 fn order_number(order: Ordering) -> i32
     ensures { result ≡ told order }
 {
@@ -48,6 +49,8 @@ fn give_lesser<T: Letter>(first: &[T], second: &[T], signed: bool, which: &mut u
     let answer = orders::compare(first, second, signed);
     give(answer.map(smaller), which)
 }
+
+// C has no generics, so each call stands once in bytes and once in words, under a name of its own.
 
 // The order of two texts of bytes.
 #[unsafe(no_mangle)]

@@ -15,7 +15,7 @@ pub extern "C" fn hx_day_page(entries: &[[u8; layout::ENTRY_BYTES]], page: &mut 
 {
     let n = entries.len();
     if n > entries::MOST_ENTRIES {
-        return Refusal::Count.number();
+        return u32::from(Refusal::Count);
     }
     status(wall_page::day_page(layout::entries_of(entries), n, page))
 }

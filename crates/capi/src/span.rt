@@ -31,6 +31,8 @@ fn give_range_span<T: Letter>(text: &[T], bounds: &[T], signed: bool, span: &mut
     give(accepted.map(|_| part.len()), span)
 }
 
+// C has no generics, so each call stands once in bytes and once in words, under a name of its own.
+
 // How long the longest front of a text is whose bytes are all in a set.
 #[unsafe(no_mangle)]
 pub extern "C" fn hx_span_in_bytes(text: &[u8], set: &[u8], span: &mut usize) -> u32

@@ -13,7 +13,8 @@ const ABSENT: u32 = 256;
 
 const FULL: u32 = 257;
 
-// The cursor that four numbers stand for.
+// The cursor that four numbers stand for. Neither type is of this crate, so it can't be a `From`
+// (Rust's orphan rule), and in `search` C's numbers would stand where there is no C.
 fn cursor_of(numbers: [u64; 4]) -> Cursor
     ensures { result ≡ cursor_of numbers }
 {
@@ -25,7 +26,7 @@ fn cursor_of(numbers: [u64; 4]) -> Cursor
     }
 }
 
-// A cursor as four numbers.
+// A cursor as four numbers, for the same reason no `From`.
 fn numbers_of(cursor: Cursor) -> [u64; 4]
     ensures { result ≡ numbers_of cursor }
 {
@@ -53,7 +54,7 @@ fn give_next(next: Next, cursor: &mut [u64; 4], position: &mut u64) -> u32
             *cursor = numbers_of(after);
             ABSENT
         }
-        Next::Refused(refusal, _) => refusal.number(),
+        Next::Refused(refusal, _) => u32::from(refusal),
     }
 }
 
@@ -78,18 +79,21 @@ fn give_filled(filled: Filled, cursor: &mut [u64; 4], count: &mut usize) -> u32
                 *cursor = numbers_of(filled.cursor);
                 *count = filled.count;
             }
-            refusal.number()
+            u32::from(refusal)
         }
     }
 }
 
-// The cursor of a first call: the numbers of `Cursor::fresh`.
+// The cursor of a first call.
 #[unsafe(no_mangle)]
 pub extern "C" fn hx_cursor_fresh(cursor: &mut [u64; 4], stop: u64)
     ensures { cursor.new ≡ numbers_of (fresh_cursor stop) }
 {
-    *cursor = [0, 0, 0, stop];
+    *cursor = numbers_of(Cursor::fresh(stop));
 }
+
+// Next match and the fill are exported in bytes and in words, since C has no generics: each width
+// has a name of its own.
 
 // The next match of a needle of bytes.
 #[unsafe(no_mangle)]

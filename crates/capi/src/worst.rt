@@ -4,6 +4,8 @@ ghost use Rattle.capi.specs.Crossing.{WorstGiven};
 
 use crate::status;
 
+// C has no generics, so the call stands once in bytes and once in words, under a name of its own.
+
 // The text of n and the needle of m bytes on which a search takes the most compares.
 #[unsafe(no_mangle)]
 pub extern "C" fn hx_worst_case_in_bytes(

@@ -4,8 +4,9 @@ use Prim.Native.Nat.{ℕ, suc, ◌+◌, ◌-◌, ◌≤◌, ◌<◌}
 use mathlib.Core.Path.{◌≡◌, sym, ap, ◌∙◌}
 use mathlib.Core.List.{List, [], ◌∷◌, ◌++◌, append_assoc, append-nil}
 use lib.ListN.{length, get_or, take, drop, set, length-append, length-drop}
-use lib.Seq.{take_all, drop-cons, drop-drop, drop-length, set_at, take_at, drop-append-add}
+use lib.Seq.{drop-cons, drop-drop, drop-length, set_at, take_at, drop-append-add}
 use native.Mathlib.Omega.{arith}
+use Rattle.std.proofs.lemmas.List.{take_rest}
 
 -- a byte x after the columns, as a space or a line feed
 pub byte_put : (columns b : List ℕ) (w x : ℕ) → length columns ≡ w → w < length b → set (columns ++ drop w b) w x ≡ (columns ++ (x ∷ [])) ++ drop (suc w) b
@@ -17,16 +18,13 @@ length_kept x b n e h = rw (length-append, length-drop) (omega arith)
 
 -- ---- a part of a page, from `at` to its end
 
-pub tail : (b : List ℕ) (at : ℕ) → take (length b - at) (drop at b) ≡ drop at b
-tail b at = take_all (length b - at) (drop at b) (rw length-drop (omega arith))
-
 pub past_tail : (b : List ℕ) (at : ℕ) → drop (length b - at) (drop at b) ≡ []
 past_tail b at = ap (λ (n : ℕ). drop n (drop at b)) (sym (length-drop at b)) ∙ drop-length (drop at b)
 
 -- the writer had the part of the page from n on, and put w bytes `x` at its front
 pub part_put : (x page part : List ℕ) (n w : ℕ) → part ≡ x ++ drop w (take (length page - n) (drop n page))
     → take n page ++ (part ++ drop (length page - n) (drop n page)) ≡ take n page ++ (x ++ drop (n + w) page)
-part_put x page part n w e = rw (e, tail page n, past_tail page n, append-nil, drop-drop w n page)
+part_put x page part n w e = rw (e, take_rest page n, past_tail page n, append-nil, drop-drop w n page)
 
 -- ---- one line after the other
 

@@ -2,11 +2,12 @@
 use Prim.Native.Nat.{ℕ, zero, suc, ◌+◌, ◌-◌, ◌/◌, ◌%◌, ◌≤◌, ◌<◌}
 use mathlib.Core.Path.{◌≡◌, refl, sym, ap, subst, ◌∙◌}
 use mathlib.Core.Logic.{by_cases}
-use mathlib.Core.List.{List, [], ◌∷◌, ◌++◌, append_assoc, append-nil}
+use mathlib.Core.List.{List, [], ◌∷◌, ◌++◌, append_assoc}
 use native.Mathlib.Decide.{dec_lt}
 use native.Mathlib.Omega.{arith}
+use native.Mathlib.Numerals.{add-one}
 use lib.ListN.{length, drop, set, length-append, length-set}
-use lib.Seq.{drop-cons, drop-length, drop-set-lt, get_or-set_same}
+use Rattle.std.proofs.lemmas.List.{drop-set}
 use Rattle.decimal.specs.Decimal.{digits}
 use Rattle.decimal.proofs.Digits.{digits_one, digits_more, some_digit}
 
@@ -18,10 +19,6 @@ left (suc i) rest = digits rest
 pub left_some : (i rest : ℕ) → 0 < i → left i rest ≡ digits rest
 left_some zero rest h = absurd (omega arith)
 left_some (suc i) rest h = refl
-
-drop_set : (b : List ℕ) (i d : ℕ) → i < length b → drop i (set b i d) ≡ d ∷ drop (suc i) b
-drop_set b i d h =
-    rw (drop-cons (set b i d) i 0 (rw length-set h), get_or-set_same b i d 0 h, drop-set-lt (suc i) b i d (omega arith))
 
 -- the last digit, and those before it
 last_left : (i n : ℕ) → length (digits n) ≡ suc i → (length (left i (n / 10)) ≡ i) × (digits n ≡ left i (n / 10) ++ ((48 + n % 10) ∷ []))
@@ -39,14 +36,11 @@ last_left i n e =
 abbrev pub Left : ℕ → ℕ → ℕ → List ℕ → Type 0
 Left n i rest b = (length b ≡ length (digits n)) × (length (left i rest) ≡ i) × (left i rest ++ drop i b ≡ digits n)
 
-pub left_all : (n : ℕ) (b : List ℕ) → length b ≡ length (digits n) → Left n (length b) n b
-left_all n b e = rw (left_some (length b) n (omega (arith, some_digit n)), drop-length b) (e, sym e, append-nil (digits n))
-
 -- the last digit that is left is stored
 stored : (n i rest d : ℕ) (b : List ℕ) → i < length b → d ≡ 48 + rest % 10 → Left n (suc i) rest b → Left n i (rest / 10) (set b i d)
 stored n i rest d b h q l =
     let m = last_left i rest l.1 in
-    (simp length-set l.0, m.0, rw (q, drop_set b i (48 + rest % 10) h) (sym (append_assoc (left i (rest / 10)) ((48 + rest % 10) ∷ []) (drop (suc i) b)) ∙ ap (λ (xs : List ℕ). xs ++ drop (suc i) b) (sym m.1) ∙ l.2))
+    (simp length-set l.0, m.0, rw (q, drop-set b i (48 + rest % 10) h, add-one) (sym (append_assoc (left i (rest / 10)) ((48 + rest % 10) ∷ []) (drop (suc i) b)) ∙ ap (λ (xs : List ℕ). xs ++ drop (suc i) b) (sym m.1) ∙ l.2))
 
 pub left_less : (n i rest d : ℕ) (b : List ℕ) → 0 < i → i ≤ length b → d ≡ 48 + rest % 10 → Left n i rest b → Left n (i - 1) (rest / 10) (set b (i - 1) d)
 left_less n zero rest d b p h q l = absurd (omega arith)

@@ -1,7 +1,6 @@
 -- Columns, refusals and buffers written out, in one list that one computed check covers.
-use Rattle.std.specs.Prelude.{ℕ, Bool, true, false, ◌&&◌, List, [], ◌∷◌, ◌++◌, T, eqb, replicate, Result, Ok, Err}
-use Rattle.refusals.specs.declared.Refusal.{Refusal}
-use Rattle.refusals.specs.Numbers.{number_of}
+use Rattle.std.specs.Prelude.{ℕ, Bool, true, false, ◌&&◌, List, [], ◌∷◌, ◌++◌, T, eqb, replicate}
+use Rattle.refusals.specs.Numbers.{status}
 use Rattle.decimal.specs.Decimal.{digits, digits_within, column, refusal_of, written, value}
 
 abbrev pub all : List Bool → Bool
@@ -14,11 +13,6 @@ same [] [] = true
 same [] (y ∷ ys) = false
 same (x ∷ xs) [] = false
 same (x ∷ xs) (y ∷ ys) = eqb x y && same xs ys
-
--- the number of a refusal, or 0
-abbrev pub told : {A : Type 0} → Result A Refusal → ℕ
-told (Ok a) = 0
-told (Err r) = number_of r
 
 -- `18446744073709551615`, the largest number of 64 bits
 abbrev pub largest : List ℕ
@@ -46,14 +40,15 @@ columns =
 -- 8 before 24, each at its edge
 unfoldable pub refusals : Bool
 refusals =
-    eqb (told (refusal_of 0 0 20)) 8 && eqb (told (refusal_of 0 1 20)) 0 && eqb (told (refusal_of 0 20 20)) 0
-    && eqb (told (refusal_of 0 21 30)) 8
-    && eqb (told (refusal_of 99999999 8 8)) 0
-    && eqb (told (refusal_of 100000000 8 8)) 8
-    && eqb (told (refusal_of 18446744073709551615 19 20)) 8
-    && eqb (told (refusal_of 18446744073709551615 20 20)) 0
-    && eqb (told (refusal_of 7 8 7)) 24
-    && eqb (told (refusal_of 10 1 0)) 8
+    eqb (status (refusal_of 0 0 20)) 8 && eqb (status (refusal_of 0 1 20)) 0
+    && eqb (status (refusal_of 0 20 20)) 0
+    && eqb (status (refusal_of 0 21 30)) 8
+    && eqb (status (refusal_of 99999999 8 8)) 0
+    && eqb (status (refusal_of 100000000 8 8)) 8
+    && eqb (status (refusal_of 18446744073709551615 19 20)) 8
+    && eqb (status (refusal_of 18446744073709551615 20 20)) 0
+    && eqb (status (refusal_of 7 8 7)) 24
+    && eqb (status (refusal_of 10 1 0)) 8
 
 -- bytes after the width stay, and a refused call writes none; 35 is `#`
 unfoldable pub buffers : Bool

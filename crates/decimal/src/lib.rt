@@ -45,7 +45,7 @@ fn accept(count: usize, width: usize, room: usize) -> Result<(), Refusal>
     Ok(())
 }
 
-// The digit of a number below ten.
+// The digit of a number below ten, for `put_digits`.
 fn digit(value: u64) -> u8
     requires { value < 10 }
     ensures { result ≡ 48 + value }
@@ -53,7 +53,8 @@ fn digit(value: u64) -> u8
     b'0' + value as u8
 }
 
-// Writes the digits of a number into as many places, the last one first.
+// Writes the digits of a number into as many places, the last one first. By hand, since of a
+// `write!` into a slice the check learns only how much of it is left, and not the bytes.
 fn put_digits(number: u64, places: &mut [u8])
     requires { length places.old ≡ length (digits number) }
     ensures { places.new ≡ digits number }

@@ -3,7 +3,6 @@ use Prim.Native.Nat.{ℕ}
 use mathlib.Core.Path.{◌≡◌, ap, ◌∙◌}
 use native.Mathlib.Omega.{arith}
 use lib.Dec.{ltb}
-use lib.ListN.{take}
 use lib.IntN.{ℤ, pos}
 use lib.Signed.{lt_z}
 use Rattle.std.proofs.Common.{Ordering}
@@ -26,10 +25,10 @@ last_by : (x y : ℕ) → is_lt (nat_cmp x y) ≡ ltb x y
 last_by x y = grind (arith, common_steps)
 
 pub by_compares : (a b : Entry)
-    → is_lt (ordering_then (nat_cmp a.minute b.minute) (ordering_then (int_cmp (order in_bytes unsigned (take a.length a.name) (take b.length b.name)) (pos 0)) (nat_cmp a.number b.number)))
+    → is_lt (ordering_then (nat_cmp a.minute b.minute) (ordering_then (int_cmp (order in_bytes unsigned (name_of a) (name_of b)) (pos 0)) (nat_cmp a.number b.number)))
     ≡ precedes a b
-unfolding precedes name_of
+unfolding precedes
 by_compares a b =
-    let o = order in_bytes unsigned (take a.length a.name) (take b.length b.name) in
+    let o = order in_bytes unsigned (name_of a) (name_of b) in
     then_by a.minute b.minute (ordering_then (int_cmp o (pos 0)) (nat_cmp a.number b.number))
     ∙ ap (decided (ltb a.minute b.minute) (ltb b.minute a.minute)) (then_by_sign o (nat_cmp a.number b.number) ∙ ap (decided_by o) (last_by a.number b.number))

@@ -1,5 +1,5 @@
 -- What the tests of entries come to. Assumes nothing.
-use Prim.Native.Nat.{ℕ, zero, suc, ◌+◌, ◌≤◌, ◌<◌, min}
+use Prim.Native.Nat.{ℕ, zero, suc, ◌+◌, ◌≤◌, ◌<◌}
 use mathlib.Core.Path.{◌≡◌, refl, sym, ◌∙◌}
 use mathlib.Core.Bool.{Bool, true, false, cond, ◌||◌}
 use mathlib.Core.List.{List, [], ◌∷◌, ◌++◌}
@@ -7,7 +7,7 @@ use native.Mathlib.Omega.{arith}
 use native.Mathlib.Numerals.{add-one}
 use lib.Dec.{ltb}
 use lib.ListN.{length, get_or, take}
-use lib.Seq.{take_all, take-suc}
+use lib.Seq.{take-suc}
 use borrow.Author.Tests.{lt-ltb, le-ltb, ltb-false, eqb-false}
 use Rattle.bits.specs.Bits.{any_below}
 use Rattle.bits.proofs.Below.{by_order, by_test, or_true, any_more_below}
@@ -92,12 +92,3 @@ form_by_list es n h =
 pub accepted_both : {A : Type 0} {a : A} (t : Result (Unit {0}) Refusal) (next : Result A Refusal) → if_accepted t next ≡ Ok a → (t ≡ Ok tt) × (next ≡ Ok a)
 accepted_both (Ok tt) next e = (refl, e)
 accepted_both (Err r) next e = cc
-
--- ---- a name cut at 32 bytes is the name
-
-pub cut : (name : List ℕ) (n : ℕ) → length name ≡ 32 → take (min n 32) name ≡ take n name
-cut name n h =
-    by_order n 32
-    (λ u. let q : min n 32 ≡ n = omega arith in rw q)
-    (λ u. let q : min n 32 ≡ 32 = omega arith in
-    rw q (take_all 32 name (omega arith) ∙ sym (take_all n name (omega arith))))

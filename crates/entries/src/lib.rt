@@ -5,11 +5,11 @@
 // `accept_form`, which tests entries one by one.
 #![tactic(auto)]
 
-ghost use Rattle.std.specs.Prelude.{◌≡◌, ◌≤◌, cond, ltb, take};
+ghost use Rattle.std.specs.Prelude.{◌≡◌, ◌≤◌, cond, length, ltb};
 ghost use Rattle.std.specs.List.{list_any};
 ghost use Rattle.unit.specs.Operand.{in_bytes};
 ghost use Rattle.orders.specs.Orders.{order, ordering_of};
-ghost use Rattle.entries.specs.Entries.{bad_entry, cleared_entry, cleared_name, empty_entry, form_refusal, precedes, unsigned};
+ghost use Rattle.entries.specs.Entries.{bad_entry, cleared_entry, cleared_name, empty_entry, form_refusal, longest_name, name_of, precedes, unsigned};
 
 use refusals::Refusal;
 use std::cmp::Ordering;
@@ -22,7 +22,8 @@ pub const LAST_MINUTE: u16 = 1439;
 pub const LONGEST_NAME: usize = 32;
 
 // An entry of document 02, a service: its entry number, a minute of the day, and a name, which is
-// the first `length` bytes of `name`. The fields can hold what is refused.
+// the first `length` bytes of `name`: fixed memory, as C has it, since there is no heap. The fields
+// can hold what is refused.
 #[derive(Clone, Copy)]
 pub struct Entry {
     pub number: u32,
@@ -38,7 +39,8 @@ fn kept(byte: u8, at: usize, length: usize) -> u8
     if at < length { byte } else { 0 }
 }
 
-// A name with zeros past its length.
+// A name with zeros past its length, which may be above 32. A loop and no `copy_from_slice`: a copy
+// of varying length is a call, and a day takes longer (docs/PERFORMANCE.md, "Days").
 fn cleared_name(name: [u8; LONGEST_NAME], length: usize) -> [u8; LONGEST_NAME]
     ensures { result ≡ cleared_name name length }
 {
@@ -47,15 +49,6 @@ fn cleared_name(name: [u8; LONGEST_NAME], length: usize) -> [u8; LONGEST_NAME]
         cleared[i] = kept(name[i], i, length);
     }
     cleared
-}
-
-// The order of two names, of n and m bytes.
-fn name_order(x: [u8; LONGEST_NAME], n: usize, y: [u8; LONGEST_NAME], m: usize) -> Ordering
-    ensures { result ≡ ordering_of (order in_bytes unsigned (take n x) (take m y)) }
-{
-    let e = n.min(LONGEST_NAME);
-    let f = m.min(LONGEST_NAME);
-    orders::compare(&x[..e], &y[..f], false).unwrap()
 }
 
 impl Entry {
@@ -91,6 +84,23 @@ impl Entry {
         Entry { name, ..self }
     }
 
+    // The bytes of the name within its length.
+    #[tactic(auto, unfolding(crate::specs::Entries::name_of))]
+    fn name(&self) -> &[u8]
+        ensures { (result.now ≡ name_of self.now) × (length result.now ≤ longest_name) }
+    {
+        let n = (self.length as usize).min(LONGEST_NAME);
+        &self.name[..n]
+    }
+
+    // The order of the names of two entries.
+    fn name_order(&self, other: &Entry) -> Ordering
+        ensures { result
+            ≡ ordering_of (order in_bytes unsigned (name_of self.now) (name_of other.now)) }
+    {
+        orders::compare(self.name(), other.name(), false).unwrap()
+    }
+
     // This entry comes before another (document 02: sorted by minute, then name by the unsigned
     // order, then entry number).
     pub fn precedes(self, other: Entry) -> bool
@@ -98,14 +108,7 @@ impl Entry {
     {
         self.minute
             .cmp(&other.minute)
-            .then_with(|| {
-                name_order(
-                    self.name,
-                    self.length as usize,
-                    other.name,
-                    other.length as usize,
-                )
-            })
+            .then_with(|| self.name_order(&other))
             .then_with(|| self.number.cmp(&other.number))
             .is_lt()
     }
@@ -118,7 +121,10 @@ fn some_bad(entries: &[Entry]) -> bool
     entries.iter().any(|e| e.is_bad())
 }
 
-// Refuses entries by their count or one by one. Entries past the count are not looked at.
+// Refuses entries by their count or one by one. Entries past the count are not looked at. It takes
+// the count beside the array, and no slice, since it refuses a count above 200 before it looks at
+// an entry.
+#[tactic(auto, using(crate::proofs::Tests::form_by_list))]
 pub fn accept_form(entries: [Entry; MOST_ENTRIES], count: usize) -> Result<(), Refusal>
     ensures { result ≡ form_refusal entries count }
 {

@@ -35,7 +35,7 @@ fn answer(output: &mut Stdout, input: &[u8]) -> io::Result<()> {
     let mut page = [0u8; report::LONGEST_REPORT];
     match report::report(input, &mut page) {
         Ok(written) => output.write_all(&page[..written]),
-        Err(refusal) => output.write_all(&report::refusal_line(refusal.number())),
+        Err(refusal) => output.write_all(&report::refusal_line(u32::from(refusal))),
     }
 }
 

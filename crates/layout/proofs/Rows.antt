@@ -1,16 +1,17 @@
 -- An entry's numbers by their bytes, and what the loops over entries and rows come to. Assumes
 -- nothing.
 use Prim.Native.Nat.{ℕ, ◌+◌, ◌*◌, ◌/◌, ◌<◌, min}
-use mathlib.Core.Path.{◌≡◌, sym, ap, ◌∙◌}
+use mathlib.Core.Path.{◌≡◌, ap, ◌∙◌}
 use mathlib.Core.List.{List, [], ◌++◌, map}
+use native.Mathlib.Nat.{min_comm}
 use native.Mathlib.Omega.{arith}
 use lib.ListN.{length, get_or, take, drop, length-take, length-drop}
 use lib.Seq.{get_or-take, get_or-drop, take_all}
 use Rattle.entries.proofs.Fills.{filling, filling_filled, table_by_each, table_front}
 use Rattle.entries.specs.Entries.{empty_entry, filled, no_entry}
+use Rattle.std.proofs.lemmas.List.{take_min}
 use Rattle.std.specs.Int.{w16, w32, to_le_bytes}
 use Rattle.bits.specs.Bits.{tabulate}
-use Rattle.bits.proofs.Below.{by_order}
 use Rattle.entries.specs.declared.Entry.{Entry}
 use Rattle.layout.specs.Layout.{entries_of, entry_of, number_at, row_of}
 
@@ -45,18 +46,11 @@ row_made e bytes q =
 
 -- ---- all entries, and all rows
 
-take_min : {A : Type 0} (m : ℕ) (l : List A) → take (min (length l) m) l ≡ take m l
-take_min m l =
-    by_order (length l) m
-    (λ u. let q : min (length l) m ≡ length l = omega arith in
-    rw q (take_all (length l) l (omega arith) ∙ sym (take_all m l (omega arith))))
-    (λ u. let q : min (length l) m ≡ m = omega arith in rw q)
-
 pub entries_read : (rows : List (List ℕ)) (i : ℕ) (out : List Entry) → i ≡ min (length rows) 200
     → out ≡ filling 200 empty_entry (λ j. entry_of (get_or rows j [])) i → out ≡ entries_of rows
 unfolding entries_of
 entries_read rows i out h e =
-    e ∙ rw h (filling_filled _ (min (length rows) 200)) ∙ ap filled (table_front entry_of (min (length rows) 200) rows [] (omega arith) ∙ ap (map entry_of) (take_min 200 rows))
+    e ∙ rw h (filling_filled _ (min (length rows) 200)) ∙ ap filled (table_front entry_of (min (length rows) 200) rows [] (omega arith) ∙ ap (map entry_of) (ap (λ (n : ℕ). take n rows) (min_comm (length rows) 200) ∙ take_min 200 rows))
 
 pub rows_written : (es : List Entry) (rows : List (List ℕ)) → length es ≡ 200 → length rows ≡ 200
     → ((k : ℕ) → k < 200 → get_or rows k [] ≡ row_of (get_or es k no_entry)) → rows ≡ map row_of es

@@ -12,7 +12,8 @@ use entries::Entry;
 // The bytes of an entry.
 pub const ENTRY_BYTES: usize = 40;
 
-// The entry of forty bytes.
+// The entry of forty bytes. Neither type is of this crate, so it can't be a `From` (Rust's orphan
+// rule), and in `entries` C's layout would stand where there is no C.
 fn entry_of(bytes: [u8; ENTRY_BYTES]) -> Entry
     ensures { result ≡ entry_of bytes }
 {
@@ -38,7 +39,7 @@ pub fn entries_of(rows: &[[u8; ENTRY_BYTES]]) -> [Entry; entries::MOST_ENTRIES]
     out
 }
 
-// The forty bytes of an entry.
+// The forty bytes of an entry, for the same reason no `From`.
 fn row_of(e: Entry) -> [u8; ENTRY_BYTES]
     ensures { result ≡ row_of e }
 {

@@ -1,24 +1,26 @@
-// What operands of sixteen bytes have of their own: the number that a byte stands for, an i16,
-// since ranges take more of these at a time than of an i32; and equal ordered, which bytes and
-// words do in different ways for speed (docs/PERFORMANCE.md).
+// What operands of sixteen bytes have of their own: the number that a byte stands for; equal
+// ordered, which bytes and words do in different ways for speed (docs/PERFORMANCE.md); and the
+// calls: a generic one, which is lent no array of elements, would have to ask that one fits in
+// memory.
 ghost use Rattle.std.specs.Prelude.{◌≡◌, ◌≤◌, ltb, pos};
 ghost use Rattle.bits.specs.Bits.{number_of};
 ghost use Rattle.unit.specs.Operand.{in_bytes, value_of};
 ghost use Rattle.unit.specs.Calls.{implicit, PCMPESTRI};
 ghost use Rattle.unit.specs.Readings.{compared_of};
+ghost use Rattle.modes.specs.Widths.{at_width};
 ghost use Rattle.unit.specs.Modes.{ordered_of};
 
 use crate::compare;
 use unit::{Compared, Control};
 
 // The number that a byte stands for, in two's complement where signed.
-pub fn value(signed: bool, x: u8) -> i16
+pub fn value(signed: bool, x: u8) -> i32
     ensures { result ≡ value_of in_bytes signed x }
 {
     if signed {
-        if x < 128 { x as i16 } else { (x as i16) - 256 }
+        x.cast_signed() as i32
     } else {
-        x as i16
+        x as i32
     }
 }
 
@@ -48,8 +50,7 @@ pub(crate) fn equal_ordered(x1: &[u8; 16], l1: usize, x2: &[u8; 16], l2: usize, 
 // "Stack").
 #[inline(never)]
 pub(crate) fn implicit(operand1: [u8; 16], operand2: [u8; 16], k: Control) -> Compared
-    requires { k.words ≡ in_bytes }
-    ensures { result ≡ compared_of (implicit operand1 operand2 k) }
+    ensures { result ≡ compared_of (implicit operand1 operand2 (at_width in_bytes k)) }
 {
     compare::implicit(&operand1, &operand2, k)
 }

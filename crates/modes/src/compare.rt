@@ -1,15 +1,18 @@
 // IntRes1 of two operands as a number, a mode at a time, then IntRes2 with the effective lengths;
-// for bytes and for words.
+// for bytes and for words. A control counts at the width of the operands, whatever its own is. An
+// operand and its length are handed on apart: in a struct they take more stack than the mask calls
+// are given, and a search is slower (docs/PERFORMANCE.md, "Stack").
 ghost use Rattle.std.specs.Prelude.{◌≡◌, cond, not, ◌-◌, ◌^◌, ◌/◌, ◌≤◌, min, eqb, get_or};
 ghost use Rattle.bits.specs.Bits.{least_below, number_of, tabulate};
-ghost use Rattle.unit.specs.Operand.{bits_of, explicit_length, value_of};
+ghost use Rattle.unit.specs.Operand.{bits_of, value_of};
 ghost use Rattle.unit.specs.Compare.{operands, int_res1};
 ghost use Rattle.unit.specs.Modes.{any_of, between, each_of, ordered_of, ranges_of};
 ghost use Rattle.unit.specs.Readings.{compared_of};
+ghost use Rattle.modes.specs.Widths.{at_width};
 
 use crate::mode::Mode;
-use stages::{negation, operand};
-use unit::{Aggregation, Compared, Control, Element};
+use stages::negation;
+use unit::{Aggregation, Block, Compared, Control};
 
 // The index of the first zero element, or N.
 fn implicit_length<T: Mode<N>, const N: usize>(x: &[T; N]) -> usize
@@ -42,6 +45,15 @@ fn equal_any<T: Mode<N>, const N: usize>(x1: &[T; N], l1: usize, x2: &[T; N], l2
     found
 }
 
+// Whether y lies from low to high.
+fn lies<T: Mode<N>, const N: usize>(signed: bool, low: T, high: T, y: T) -> bool
+    ensures { result
+        ≡ between (value_of T.words signed) (T.number low) (T.number high) (T.number y) }
+{
+    let n = y.value(signed);
+    (low.value(signed) <= n) & (n <= high.value(signed))
+}
+
 // Sets every bit of the row's marks where an element of x lies from low to high. The row is marked
 // where it stands, for the stack of the mask calls (docs/PERFORMANCE.md, "Stack").
 fn within<T: Mode<N>, const N: usize>(signed: bool, x: &[T; N], low: T, high: T, row: &mut [T; N])
@@ -53,7 +65,7 @@ fn within<T: Mode<N>, const N: usize>(signed: bool, x: &[T; N], low: T, high: T,
         (2 ^ bits_of T.words - 1) (get_or (T.numbers row.old) j 0)) }
 {
     for j in 0..N {
-        let mark = if T::lies(signed, low, high, x[j]) {
+        let mark = if lies::<T, N>(signed, low, high, x[j]) {
             T::full()
         } else {
             row[j]
@@ -85,8 +97,8 @@ fn ranges<T: Mode<N>, const N: usize>(
 }
 
 // Bit j: the elements at j are equal, or both invalid.
-fn equal_each<T: Element, const N: usize>(x1: &[T; N], l1: usize, x2: &[T; N], l2: usize) -> u32
-    requires { (N ≡ T.COUNT) × (l1 ≤ N) × (l2 ≤ N) }
+fn equal_each<T: Block<N>, const N: usize>(x1: &[T; N], l1: usize, x2: &[T; N], l2: usize) -> u32
+    requires { (l1 ≤ N) × (l2 ≤ N) }
     ensures { result
         ≡ number_of N (each_of (T.numbers x1.now) l1 (T.numbers x2.now) l2) }
 {
@@ -97,8 +109,8 @@ fn equal_each<T: Element, const N: usize>(x1: &[T; N], l1: usize, x2: &[T; N], l
 
 // Bit j: equal each, negated. Parts of one length, as a search compares them, differ at a valid
 // element or nowhere. The operands are compared before the test, for speed.
-fn differ<T: Element, const N: usize>(x1: &[T; N], l1: usize, x2: &[T; N], l2: usize) -> u32
-    requires { (N ≡ T.COUNT) × (l1 ≤ N) × (l2 ≤ N) }
+fn differ<T: Block<N>, const N: usize>(x1: &[T; N], l1: usize, x2: &[T; N], l2: usize) -> u32
+    requires { (l1 ≤ N) × (l2 ≤ N) }
     ensures { result
         ≡ number_of N
         (λ j. not (each_of (T.numbers x1.now) l1 (T.numbers x2.now) l2 j)) }
@@ -121,10 +133,10 @@ fn aggregated<T: Mode<N>, const N: usize>(
     x2: &[T; N],
     l2: usize,
 ) -> u32
-    requires { (k.words ≡ T.words) × (l1 ≤ N) × (l2 ≤ N) }
+    requires { (l1 ≤ N) × (l2 ≤ N) }
     ensures { result
         ≡ number_of N
-        (int_res1 (operands k (T.numbers x1.now) l1 (T.numbers x2.now) l2)) }
+        (int_res1 (operands (at_width T.words k) (T.numbers x1.now) l1 (T.numbers x2.now) l2)) }
 {
     match k.aggregation {
         Aggregation::EqualAny => equal_any(x1, l1, x2, l2),
@@ -144,11 +156,12 @@ fn int_res2<T: Mode<N>, const N: usize>(
     x2: &[T; N],
     l2: usize,
 ) -> u32
-    requires { (k.words ≡ T.words) × (l1 ≤ N) × (l2 ≤ N) }
+    requires { (l1 ≤ N) × (l2 ≤ N) }
     ensures { result
-        ≡ (compared_of (operands k (T.numbers x1.now) l1 (T.numbers x2.now) l2)).bits }
+        ≡ (compared_of
+        (operands (at_width T.words k) (T.numbers x1.now) l1 (T.numbers x2.now) l2)).bits }
 {
-    aggregated(k, x1, l1, x2, l2) ^ negation::negated(k.polarity, k.words, l2)
+    aggregated(k, x1, l1, x2, l2) ^ negation::negated::<T>(k.polarity, l2)
 }
 
 // The same, with the effective lengths.
@@ -160,9 +173,9 @@ fn compared<T: Mode<N>, const N: usize>(
     x2: &[T; N],
     l2: usize,
 ) -> Compared
-    requires { (k.words ≡ T.words) × (l1 ≤ N) × (l2 ≤ N) }
+    requires { (l1 ≤ N) × (l2 ≤ N) }
     ensures { result
-        ≡ compared_of (operands k (T.numbers x1.now) l1 (T.numbers x2.now) l2) }
+        ≡ compared_of (operands (at_width T.words k) (T.numbers x1.now) l1 (T.numbers x2.now) l2) }
 {
     Compared {
         bits: int_res2(k, x1, l1, x2, l2),
@@ -171,26 +184,7 @@ fn compared<T: Mode<N>, const N: usize>(
     }
 }
 
-// What an explicit call compares.
-pub fn explicit<T: Mode<N>, const N: usize>(
-    x1: &[T; N],
-    length1: i64,
-    x2: &[T; N],
-    length2: i64,
-    k: Control,
-) -> Compared
-    requires { k.words ≡ T.words }
-    ensures { result
-        ≡ compared_of
-        (operands k (T.numbers x1.now) (explicit_length N length1)
-        (T.numbers x2.now) (explicit_length N length2)) }
-{
-    let l1 = operand::explicit_length(k.words, length1);
-    let l2 = operand::explicit_length(k.words, length2);
-    compared(k, x1, l1, x2, l2)
-}
-
-// The same, for lengths that are not negative.
+// What an explicit call compares, for lengths that are not negative.
 pub fn explicit_usize<T: Mode<N>, const N: usize>(
     x1: &[T; N],
     length1: usize,
@@ -198,10 +192,10 @@ pub fn explicit_usize<T: Mode<N>, const N: usize>(
     length2: usize,
     k: Control,
 ) -> Compared
-    requires { k.words ≡ T.words }
     ensures { result
         ≡ compared_of
-        (operands k (T.numbers x1.now) (min N length1) (T.numbers x2.now) (min N length2)) }
+        (operands (at_width T.words k) (T.numbers x1.now) (min N length1) (T.numbers x2.now)
+        (min N length2)) }
 {
     compared(k, x1, N.min(length1), x2, N.min(length2))
 }
@@ -209,10 +203,9 @@ pub fn explicit_usize<T: Mode<N>, const N: usize>(
 // What an implicit call compares.
 #[inline(always)]
 pub fn implicit<T: Mode<N>, const N: usize>(x1: &[T; N], x2: &[T; N], k: Control) -> Compared
-    requires { k.words ≡ T.words }
     ensures { result
         ≡ compared_of
-        (operands k (T.numbers x1.now)
+        (operands (at_width T.words k) (T.numbers x1.now)
         (least_below N (λ j. eqb (get_or (T.numbers x1.now) j 0) 0))
         (T.numbers x2.now)
         (least_below N (λ j. eqb (get_or (T.numbers x2.now) j 0) 0))) }
@@ -236,7 +229,7 @@ pub fn ordered_index<T: Mode<N>, const N: usize>(
     let l1 = N.min(length1);
     let l2 = N.min(length2);
     let found = T::equal_ordered(x1, l1, x2, l2, bits::first(l2));
-    bits::least(found, N as u32)
+    bits::least(found).unwrap_or(N as u32)
 }
 
 // Where the operands first differ, or N.
@@ -251,5 +244,6 @@ pub fn differ_index<T: Mode<N>, const N: usize>(
         (λ j. not
         (each_of (T.numbers x1.now) (min N length1) (T.numbers x2.now) (min N length2) j)) }
 {
-    bits::least(differ(x1, N.min(length1), x2, N.min(length2)), N as u32)
+    let found = differ(x1, N.min(length1), x2, N.min(length2));
+    bits::least(found).unwrap_or(N as u32)
 }

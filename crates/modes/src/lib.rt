@@ -16,9 +16,10 @@ ghost use Rattle.std.specs.Prelude.{◌≡◌, pos};
 ghost use Rattle.unit.specs.Calls.{explicit, implicit};
 ghost use Rattle.unit.specs.Readings.{compared_of};
 
+use stages::operand;
 use unit::{Compared, Control};
 
-// What an explicit call compares.
+// What an explicit call compares: a length with a sign counts as the effective one that it gives.
 pub fn explicit(
     operand1: [u8; 16],
     length1: i64,
@@ -28,10 +29,9 @@ pub fn explicit(
 ) -> Compared
     ensures { result ≡ compared_of (explicit operand1 length1 operand2 length2 k) }
 {
-    if k.words {
-        return words::explicit(operand1, length1, operand2, length2, k);
-    }
-    compare::explicit(&operand1, length1, &operand2, length2, k)
+    let l1 = operand::explicit_length(k.words, length1);
+    let l2 = operand::explicit_length(k.words, length2);
+    explicit_usize(operand1, l1, operand2, l2, k)
 }
 
 // The same, for lengths that are not negative.

@@ -1,13 +1,14 @@
-// What the modes take of the width: bytes and words differ in these alone.
-ghost use Rattle.std.specs.Prelude.{◌≡◌, refl, ◌-◌, ◌^◌, ◌≤◌, eqb, get_or, ltb};
+// What the modes take of the width: bytes and words differ in these alone. `marked` is one of them
+// since in bytes it has a hint.
+ghost use Rattle.std.specs.Prelude.{◌≡◌, ◌-◌, ◌^◌, ◌≤◌, eqb, get_or, ltb};
 ghost use Rattle.bits.specs.Bits.{number_of};
 ghost use Rattle.unit.specs.Operand.{bits_of, value_of};
-ghost use Rattle.unit.specs.Modes.{between, ordered_of};
+ghost use Rattle.unit.specs.Modes.{ordered_of};
 
 use crate::{bytes, words};
-use unit::Element;
+use unit::Block;
 
-pub trait Mode<const N: usize>: Element {
+pub trait Mode<const N: usize>: Block<N> {
     // Zero, and the element whose bits are all set.
     fn zero() -> Self
         ensures { Self.number result ≡ 0 };
@@ -15,11 +16,9 @@ pub trait Mode<const N: usize>: Element {
     fn full() -> Self
         ensures { Self.number result ≡ 2 ^ bits_of Self.words - 1 };
 
-    // Whether y lies from low to high.
-    fn lies(signed: bool, low: Self, high: Self, y: Self) -> bool
-        ensures { result
-            ≡ between (value_of Self.words signed) (Self.number low) (Self.number high)
-            (Self.number y) };
+    // The number that an element stands for, in two's complement where signed.
+    fn value(self, signed: bool) -> i32
+        ensures { result ≡ value_of Self.words signed (Self.number self) };
 
     // Bit j: every bit of element j is set.
     fn marked(row: &[Self; N]) -> u32
@@ -33,9 +32,6 @@ pub trait Mode<const N: usize>: Element {
         requires { (l1 ≤ N) × (l2 ≤ N) × (valid ≡ number_of 16 (λ j. ltb j l2)) }
         ensures { result
             ≡ number_of N (ordered_of N (Self.numbers x1.now) l1 (Self.numbers x2.now) l2) };
-
-    // An operand has N elements.
-    ghost sized: { N ≡ Self.COUNT };
 }
 
 impl Mode<16> for u8 {
@@ -47,9 +43,8 @@ impl Mode<16> for u8 {
         255
     }
 
-    fn lies(signed: bool, low: u8, high: u8, y: u8) -> bool {
-        let n = bytes::value(signed, y);
-        (bytes::value(signed, low) <= n) & (n <= bytes::value(signed, high))
+    fn value(self, signed: bool) -> i32 {
+        bytes::value(signed, self)
     }
 
     // The hint is for the stack of the mask calls (docs/PERFORMANCE.md, "Stack").
@@ -61,8 +56,6 @@ impl Mode<16> for u8 {
     fn equal_ordered(x1: &[u8; 16], l1: usize, x2: &[u8; 16], l2: usize, valid: u32) -> u32 {
         bytes::equal_ordered(x1, l1, x2, l2, valid)
     }
-
-    ghost sized = { refl };
 }
 
 impl Mode<8> for u16 {
@@ -74,9 +67,8 @@ impl Mode<8> for u16 {
         65535
     }
 
-    fn lies(signed: bool, low: u16, high: u16, y: u16) -> bool {
-        let n = words::value(signed, y);
-        (words::value(signed, low) <= n) & (n <= words::value(signed, high))
+    fn value(self, signed: bool) -> i32 {
+        words::value(signed, self)
     }
 
     fn marked(row: &[u16; 8]) -> u32 {
@@ -86,6 +78,4 @@ impl Mode<8> for u16 {
     fn equal_ordered(x1: &[u16; 8], l1: usize, x2: &[u16; 8], l2: usize, valid: u32) -> u32 {
         words::equal_ordered(x1, l1, x2, l2, valid)
     }
-
-    ghost sized = { refl };
 }

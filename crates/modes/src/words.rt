@@ -1,11 +1,13 @@
-// What operands of eight words have of their own: the number that a word stands for, and equal
-// ordered, which bytes and words do in different ways for speed (docs/PERFORMANCE.md).
+// What operands of eight words have of their own: the number that a word stands for; equal ordered,
+// which bytes and words do in different ways for speed (docs/PERFORMANCE.md); and the calls: a
+// generic one, which is lent no array of elements, would have to ask that one fits in memory.
 ghost use Rattle.std.specs.Prelude.{◌≡◌, ◌≤◌, ltb, pos};
 ghost use Rattle.bits.specs.Bits.{number_of};
 ghost use Rattle.unit.specs.Operand.{in_words, value_of};
 ghost use Rattle.unit.specs.Calls.{explicit, implicit, PCMPESTRI};
 ghost use Rattle.unit.specs.Modes.{ordered_of};
 ghost use Rattle.unit.specs.Readings.{compared_of};
+ghost use Rattle.modes.specs.Widths.{at_width};
 
 use crate::compare;
 use stages::operand;
@@ -16,11 +18,7 @@ pub fn value(signed: bool, x: u16) -> i32
     ensures { result ≡ value_of in_words signed x }
 {
     if signed {
-        if x < 32768 {
-            x as i32
-        } else {
-            (x as i32) - 65536
-        }
+        x.cast_signed() as i32
     } else {
         x as i32
     }
@@ -44,25 +42,8 @@ pub(crate) fn equal_ordered(x1: &[u16; 8], l1: usize, x2: &[u16; 8], l2: usize, 
     left
 }
 
-// What an explicit call compares.
+// What an explicit call compares, for lengths that are not negative.
 #[inline(always)]
-pub(crate) fn explicit(
-    operand1: [u8; 16],
-    length1: i64,
-    operand2: [u8; 16],
-    length2: i64,
-    k: Control,
-) -> Compared
-    requires { k.words ≡ in_words }
-    ensures { result ≡ compared_of (explicit operand1 length1 operand2 length2 k) }
-{
-    let x1 = operand::words_of(operand1);
-    let x2 = operand::words_of(operand2);
-    compare::explicit(&x1, length1, &x2, length2, k)
-}
-
-// The same, for lengths that are not negative.
-#[inline(never)]
 pub(crate) fn explicit_usize(
     operand1: [u8; 16],
     length1: usize,
@@ -70,8 +51,9 @@ pub(crate) fn explicit_usize(
     length2: usize,
     k: Control,
 ) -> Compared
-    requires { k.words ≡ in_words }
-    ensures { result ≡ compared_of (explicit operand1 (pos length1) operand2 (pos length2) k) }
+    ensures { result
+        ≡ compared_of
+        (explicit operand1 (pos length1) operand2 (pos length2) (at_width in_words k)) }
 {
     let x1 = operand::words_of(operand1);
     let x2 = operand::words_of(operand2);
@@ -82,8 +64,7 @@ pub(crate) fn explicit_usize(
 // (docs/PERFORMANCE.md, "Stack").
 #[inline(never)]
 pub(crate) fn implicit(operand1: [u8; 16], operand2: [u8; 16], k: Control) -> Compared
-    requires { k.words ≡ in_words }
-    ensures { result ≡ compared_of (implicit operand1 operand2 k) }
+    ensures { result ≡ compared_of (implicit operand1 operand2 (at_width in_words k)) }
 {
     let x1 = operand::words_of(operand1);
     let x2 = operand::words_of(operand2);

@@ -13,12 +13,9 @@ use Rattle.std.proofs.lemmas.Bool.Decides.{nat_tests}
 use Rattle.std.proofs.lemmas.Int.{ints}
 use Rattle.std.specs.Ordering.{nat_cmp, int_cmp}
 use Rattle.std.specs.declared.cmp.Ordering.{Ordering}
-use borrow.Author.Tests.{le-ltb}
-use Rattle.std.specs.Prelude.{Ok}
-use Rattle.blocks.specs.Blocks.{longest_text}
 use Rattle.bits.proofs.Below.{by_test}
 use Rattle.unit.specs.Operand.{value_of}
-use Rattle.orders.specs.Orders.{difference, sign, order_at, order, ordering_of, order_answer, told}
+use Rattle.orders.specs.Orders.{difference, sign, order_at, order, ordering_of, told}
 use Rattle.orders.proofs.Order.{at_elements, at_end}
 
 of_values : (a b : ℤ) → int_cmp a b ≡ ordering_of (sign a b)
@@ -39,13 +36,6 @@ module _ (words signed : Bool) (x y : List ℕ) (k : ℕ) (d : k ≡ difference 
   with_none h n m e f =
       let value = value_of words signed in
       of_lengths n m ∙ (λ t. ordering_of (sign (pos (e t)) (pos (f t)))) ∙ ap ordering_of (sym (at_end value x y k h) ∙ ap (order_at value x y) d)
-
--- for callers: texts within the limit have an order
-pub order_given : (words signed : Bool) (x y : List ℕ) → length x ≤ longest_text → length y ≤ longest_text → order_answer words signed x y ≡ Ok (ordering_of (order words signed x y))
-order_given words signed x y h k = rw (le-ltb longest_text (length x) h, le-ltb longest_text (length y) k)
-
-pub order_value : (words signed : Bool) (x y : List ℕ) (o : Ordering) → length x ≤ longest_text → length y ≤ longest_text → order_answer words signed x y ≡ Ok o → o ≡ ordering_of (order words signed x y)
-order_value words signed x y o h k e = let f = order_given words signed x y h k in cc
 
 -- ---- an order told as -1, 0 or 1
 

@@ -7,6 +7,10 @@
 // searches `pcmpestri_0c`, `pcmpestri_0d`, `pcmpestri_18`, `pcmpestri_19`, its index at that
 // control. Data flows through `stages::fields`, then `modes`, then `stages::index` or
 // `stages::mask`.
+//
+// There is a call for each instruction, since each has its own definition and answer, and one for
+// each of the four controls, since each has its name in C. README promises lengths with a sign, as
+// the instruction has them, and `pcmpestri_usize` beside: so both of these stay.
 
 #![tactic(auto)]
 

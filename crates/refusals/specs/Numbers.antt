@@ -1,5 +1,5 @@
 -- The number of each refusal, as documents 01 and 02 list them. 0 stands for an accepted call.
-use Rattle.std.specs.Prelude.{ℕ}
+use Rattle.std.specs.Prelude.{ℕ, Result, Ok, Err}
 use Rattle.refusals.specs.declared.Refusal.{Refusal}
 use Rattle.refusals.specs.declared.Refusal.TheVariants.{Control, Text, Needle, List, Odd, Feed, Input, Width, Exhausted, Position, Compares, Buffer, Stop, Count, Entry, Number, Page, Sizes, Lengths}
 
@@ -23,3 +23,8 @@ number_of Number = 34
 number_of Page = 35
 number_of Sizes = 36
 number_of Lengths = 37
+
+-- the number of a call: 0 where it is accepted, or that of what refuses it
+abbrev pub status : {A : Type 0} → Result A Refusal → ℕ
+status (Ok x) = 0
+status (Err r) = number_of r

@@ -1,7 +1,8 @@
 // The numbers by which calls refuse, as one enum: document 01's and document 02's, a variant for
-// each (docs/REFUSALS.md has the table). `number` is in specs/Numbers.antt.
+// each (docs/REFUSALS.md has the table).
 //
-// Public calls: `number` of a refusal. It asks nothing of its argument.
+// Public calls: `u32::from` of a refusal, its number (`number_of` in specs/Numbers.antt). It asks
+// nothing of its argument.
 #![tactic(auto)]
 
 ghost use Rattle.std.specs.Prelude.{◌≡◌};
@@ -30,11 +31,11 @@ pub enum Refusal {
     Lengths = 37, // a buffer is not just as long as its size
 }
 
-impl Refusal {
-    // The number of document 01 or 02.
-    pub fn number(self) -> u32
-        ensures { result ≡ number_of self }
-    {
-        self as u32
+// The number of document 01 or 02.
+impl From<Refusal> for u32 {
+    ghost from_gives = { λ refusal number. number ≡ number_of refusal };
+
+    fn from(refusal: Refusal) -> u32 {
+        refusal as u32
     }
 }

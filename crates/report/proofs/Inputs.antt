@@ -14,7 +14,7 @@ use Rattle.std.specs.Prelude.{Ok, Err, Some, None}
 use Rattle.std.specs.List.{position, position_or_len}
 use Rattle.std.proofs.lemmas.List.Recursion.{is_position_or_len}
 use Rattle.refusals.specs.declared.Refusal.TheVariants.{Input, Feed, Needle}
-use Rattle.search.specs.Calls.{number_by}
+use Rattle.refusals.specs.Numbers.{status}
 use Rattle.search.specs.Cursors.{longest_needle}
 use Rattle.report.specs.Report.{feed_at, needle_of, longest_input, refusal_of}
 
@@ -75,7 +75,7 @@ no_refusal input h n g =
     rw (le-ltb longest_input (length input) h, ne_eqb (feed_at input) (length input) n, le-ltb longest_needle (length (needle_of input)) (rw length_needle g))
 
 -- every refusal's number is small
-pub refusal_small : (input : List ℕ) → number_by (refusal_of input) ≤ 7
+pub refusal_small : (input : List ℕ) → status (refusal_of input) ≤ 7
 unfolding refusal_of
 refusal_small input =
     by_test (ltb longest_input (length input)) (λ e. rw e (omega arith))

@@ -15,7 +15,8 @@ use native.Mathlib.Numerals.{add-one}
 use borrow.Author.Tests.{lt-ltb}
 use Rattle.unit.specs.Operand.{in_bytes}
 use Rattle.bits.proofs.Below.{by_test}
-use Rattle.decimal.proofs.Pages.{tail, line_put, part_put}
+use Rattle.std.proofs.lemmas.List.{take_rest}
+use Rattle.decimal.proofs.Pages.{line_put, part_put}
 use Rattle.std.specs.Prelude.{Result, Ok, Err}
 use Rattle.refusals.specs.Numbers.{number_of}
 use Rattle.refusals.specs.declared.Refusal.{Refusal}
@@ -103,7 +104,7 @@ pub listed_so : (input b after : List ℕ) (at n : ℕ) → at ≡ feed_at input
     → Put (listing (take (length input - (at + 1)) (drop (at + 1) input)) (take at input)) b after n
     → Reported input b after (Ok n)
 listed_so input b after at n e none put =
-    let same : listing (take (length input - (at + 1)) (drop (at + 1) input)) (take at input) ≡ lines_of input = rw (tail input (at + 1), e, add-one) (sym (lines_listed input none)) in
+    let same : listing (take (length input - (at + 1)) (drop (at + 1) input)) (take at input) ≡ lines_of input = rw (take_rest input (at + 1), e, add-one) (sym (lines_listed input none)) in
     let p = subst (λ (l : List ℕ). Put l b after n) same put in
     record { answer = rw none (ap Ok p.count); page = p.page }
 

@@ -8,10 +8,11 @@ use mathlib.Core.Logic.{by_cases}
 use native.Mathlib.Decide.{dec_lt}
 use native.Mathlib.Omega.{arith}
 use borrow.Author.Tests.{lt-ltb, le-ltb}
+use Rattle.std.proofs.lemmas.List.{take_rest}
 use Rattle.refusals.specs.declared.Refusal.TheVariants.{Width}
 use Rattle.decimal.specs.Decimal.{column, written}
 use Rattle.decimal.proofs.Columns.{length_column, refuses, writes, written_err}
-use Rattle.decimal.proofs.Pages.{byte_put, tail, past_tail}
+use Rattle.decimal.proofs.Pages.{byte_put, past_tail}
 use Rattle.report.specs.Report.{number_line, refusal_line, totals_line}
 
 pub number_put : (n : ℕ) (b : List ℕ) → n < 100000000 → 9 ≤ length b → set (written n 8 b) 8 10 ≡ number_line n ++ drop 9 b
@@ -35,7 +36,7 @@ module _ (m k : ℕ) (b c : List ℕ) (e : c ≡ written m 8 b) (h : m < 1000000
   pub compares_written : written k 10 (take (length c - 8) (drop 8 c)) ≡ column k 10 ++ drop 18 b
   compares_written =
       let r : 10 ≤ length (drop 8 b) = rw length-drop (omega arith) in
-      rw (tail c 8, rest, writes k 10 (drop 8 b) g (omega arith) (omega arith) r, drop-drop 10 8 b)
+      rw (take_rest c 8, rest, writes k 10 (drop 8 b) g (omega arith) (omega arith) r, drop-drop 10 8 b)
 
   pub totals_put : (d : List ℕ) → d ≡ written k 10 (take (length c - 8) (drop 8 c))
       → set (take 8 c ++ (d ++ drop (length c - 8) (drop 8 c))) 18 10 ≡ totals_line m k ++ drop 19 b

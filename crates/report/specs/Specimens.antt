@@ -1,6 +1,7 @@
 -- The worked example of document 01, the smallest inputs and each refusal at its edge, in one list
 -- that one computed check covers.
 use Rattle.std.specs.Prelude.{ℕ, ◌+◌, Bool, ◌&&◌, List, [], ◌∷◌, ◌++◌, T, eqb, replicate}
+use Rattle.refusals.specs.Numbers.{status}
 use Rattle.bits.specs.Bits.{least_below, number_of, tabulate}
 use Rattle.blocks.specs.Blocks.{operand_of, compare_index}
 use Rattle.decimal.specs.Decimal.{digits, digits_within, column}
@@ -11,7 +12,6 @@ use Rattle.unit.specs.Compare.{bool_res, int_res1, int_res2}
 use Rattle.unit.specs.Output.{index_of, flags_of}
 use Rattle.unit.specs.Calls.{PCMPESTRI}
 use Rattle.search.specs.Positions.{positions}
-use Rattle.search.specs.Calls.{number_by}
 use Rattle.search.specs.Walk.{later, walk, count_from, walk_count}
 use Rattle.report.specs.Report.{feed_at, refusal_of, number_line, match_lines, totals_line, listing, report_of}
 
@@ -41,15 +41,15 @@ smallest =
 -- 7, 6, 3, in this order, each at its edge
 unfoldable pub refusals : Bool
 refusals =
-    eqb (number_by (refusal_of [])) 6 && eqb (number_by (refusal_of (65 ∷ []))) 6 && eqb (number_by (refusal_of (10 ∷ []))) 0
-    && eqb (number_by (refusal_of (replicate 1024 65 ++ (10 ∷ [])))) 0
-    && eqb (number_by (refusal_of (replicate 1025 65 ++ (10 ∷ [])))) 3
-    && eqb (number_by (refusal_of (replicate 65536 65))) 6
-    && eqb (number_by (refusal_of (replicate 65537 65))) 7
-    && eqb (number_by (refusal_of (replicate 65535 65 ++ (10 ∷ [])))) 3
-    && eqb (number_by (refusal_of (replicate 65536 65 ++ (10 ∷ [])))) 7
-    && eqb (number_by (refusal_of (10 ∷ replicate 65535 65))) 0
-    && eqb (number_by (refusal_of (10 ∷ replicate 65536 65))) 7
+    eqb (status (refusal_of [])) 6 && eqb (status (refusal_of (65 ∷ []))) 6 && eqb (status (refusal_of (10 ∷ []))) 0
+    && eqb (status (refusal_of (replicate 1024 65 ++ (10 ∷ [])))) 0
+    && eqb (status (refusal_of (replicate 1025 65 ++ (10 ∷ [])))) 3
+    && eqb (status (refusal_of (replicate 65536 65))) 6
+    && eqb (status (refusal_of (replicate 65537 65))) 7
+    && eqb (status (refusal_of (replicate 65535 65 ++ (10 ∷ [])))) 3
+    && eqb (status (refusal_of (replicate 65536 65 ++ (10 ∷ [])))) 7
+    && eqb (status (refusal_of (10 ∷ replicate 65535 65))) 0
+    && eqb (status (refusal_of (10 ∷ replicate 65536 65))) 7
     && same (report_of []) (digit 7 6 ++ (10 ∷ []))
 
 pub specimens_hold : T (all (example ∷ smallest ∷ refusals ∷ []))

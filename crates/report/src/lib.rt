@@ -73,21 +73,16 @@ fn put_matches(text: &[u8], needle: &[u8], page: &mut [u8]) -> Tally
         page.new result }
 {
     let mut matches = 0;
-    let mut cursor = Cursor::fresh(text.len() as u64);
-    'calls: loop {
-        match cursor.next_match(text, needle) {
-            Next::Match(position, after) => {
-                put_number(position, &mut page[matches * NUMBER_LINE..]);
-                matches += 1;
-                cursor = after;
-            }
-            Next::Absent(last) | Next::Refused(_, last) => {
-                return Tally {
-                    matches: matches,
-                    compares: last.compares,
-                };
-            }
-        }
+    let mut answer = Cursor::fresh(text.len() as u64).next_match(text, needle);
+    'calls: while let Next::Match(position, after) = answer {
+        put_number(position, &mut page[matches * NUMBER_LINE..]);
+        matches += 1;
+        answer = after.next_match(text, needle);
+    }
+    let (Next::Match(_, last) | Next::Absent(last) | Next::Refused(_, last)) = answer;
+    Tally {
+        matches,
+        compares: last.compares,
     }
 }
 

@@ -3,7 +3,7 @@
 -- the operand fitted, each of them would stand. Assumes nothing.
 use Prim.Native.Nat.{ℕ, ◌+◌, ◌*◌, ◌-◌, ◌/◌, ◌%◌, ◌≤◌, ◌<◌, min, zero-le}
 use mathlib.Core.Path.{◌≡◌, refl, sym, ap, ◌∙◌}
-use mathlib.Core.Bool.{Bool, true, false, not, ◌&&◌, ◌||◌}
+use mathlib.Core.Bool.{Bool, true, false, not, ◌&&◌, ◌||◌, or-false}
 use mathlib.Core.List.{List}
 use lib.Dec.{eqb, leb, ltb}
 use lib.ListN.{length, get_or, take, drop, length-take, length-drop}
@@ -11,6 +11,7 @@ use lib.Seq.{get_or-take}
 use native.Mathlib.Omega.{arith}
 use borrow.Author.Count.{below_more}
 use borrow.Author.Tests.{eq-eqb, eqb-true, le-leb, lt-leb, le-ltb, lt-ltb, ne_eqb, not-false}
+use Rattle.std.proofs.lemmas.Bool.{or_parts}
 use Rattle.bits.specs.Bits.{least_below, tabulate}
 use Rattle.bits.proofs.Below.{by_order, by_test, or_true, least_at, least_before, least_none, least_passes, least_within, all_each, each_all}
 use Rattle.bits.proofs.Lists.{get_or_tabulate}
@@ -18,7 +19,7 @@ use Rattle.blocks.specs.Blocks.{index_at, operand_of, ordered}
 use Rattle.blocks.proofs.Compares.{element_is}
 use Rattle.unit.specs.Elements.{Reading}
 use Rattle.unit.proofs.Elements.{part_is}
-use Rattle.unit.proofs.Unit.{count_most}
+use Rattle.unit.proofs.Unit.{count_most, count_some}
 use Rattle.unit.specs.declared.Aggregation.TheVariants.{EqualOrdered}
 use Rattle.unit.specs.Control.{control_of}
 use Rattle.unit.specs.Operand.{count, elements, explicit_length}
@@ -147,10 +148,6 @@ module _ {A : Type 0} {numbers : List A → List ℕ} {number : A → ℕ} (r : 
   over i c h = ap (scanned i) is ∙ scan_over words operand1 l (numbers part) i c (rw blocks_are at h)
 
 -- ---- the bits of a compare
-
-count_some : (words : Bool) → 0 < count words
-count_some true = omega arith
-count_some false = omega arith
 
 both : (v r : Bool) → override EqualOrdered true v r ≡ true → r ≡ true
 both true r e = e
@@ -287,20 +284,12 @@ module _ {A : Type 0} {numbers : List A → List ℕ} {number : A → ℕ} (r : 
 
 -- ---- one turn of `may_start`
 
-none_of : (a b : Bool) → (a || b) ≡ false → (a ≡ false) × (b ≡ false)
-none_of true b e = absurd (let z : ◌≡◌ {A = ℕ} 0 1 = cc in omega arith)
-none_of false b e = (refl, e)
-
 -- a letter that is asked for stands where its element is
 pub first_letter : (y : List ℕ) (x : ℕ) (u : List Bool) (j : ℕ) → get_or u j false ≡ false → stands_at y x u j 0 ≡ eqb (get_or y j 0) x
 first_letter y x u j e =
     let at : j + 0 ≡ j = omega arith in
     let row : 16 * 0 + j ≡ j = omega arith in
-    rw (at, row, e) (or_false (eqb (get_or y j 0) x))
-  where
-    or_false : (t : Bool) → (t || false) ≡ t
-    or_false true = refl
-    or_false false = refl
+    rw (at, row, e) (or-false (eqb (get_or y j 0) x))
 
 -- One place more where nothing is found; s0 to s3 are what the tests of the letters say at j.
 pub place_more : (y xs : List ℕ) (u : List Bool) (found : Bool) (j : ℕ) (s0 s1 s2 s3 : Bool) → s0 ≡ stands_at y (get_or xs 0 0) u j 0
@@ -312,5 +301,5 @@ pub place_more : (y xs : List ℕ) (u : List Bool) (found : Bool) (j : ℕ) (s0 
     → (k : ℕ) → k < j + 1
     → starts_at y xs u k ≡ false
 place_more y xs u found j s0 s1 s2 s3 e0 e1 e2 e3 before z =
-    let n = none_of found (((s0 && s1) && s2) && s3) z in
+    let n = or_parts found (((s0 && s1) && s2) && s3) z in
     below_more (λ k. starts_at y xs u k ≡ false) j (before n.0) (sym (λ t. ((e0 t && e1 t) && e2 t) && e3 t) ∙ n.1)

@@ -16,8 +16,9 @@ ghost use Rattle.scan.specs.Scan.{agreeing, scan_of};
 use blocks::Letter;
 
 // What a scan comes to: how many blocks came before the one that ended it, and the index in that
-// one. Where the part ran out of whole blocks, the index is b, as the unit's own is for none, and
-// `scan_of` says it so: no Option.
+// one. Where the part ran out of whole blocks, the index is b, and `scan_of` says it so: b is the
+// unit's own answer for none, and the walk asks for it as such, so that an Option would be made
+// here to be taken apart there at once.
 #[derive(Clone, Copy)]
 pub struct Scanned {
     pub blocks: usize,
@@ -72,7 +73,8 @@ fn may_start<T: Letter>(part: &[T], operand1: &[u8; 16], rows: &[bool; 64]) -> b
 }
 
 // The next block from `from` on that the letters do not rule out, as far as there are elements
-// ahead.
+// ahead. Here as in `later` and `scan` an operand and its length are handed on apart, as the unit
+// takes them.
 fn pass<T: Letter>(operand1: &[u8; 16], l: usize, part: &[T], from: usize) -> usize
     requires { Begun T.words operand1.now l (T.numbers part.now) from }
     ensures { Reached T.words operand1.now l (T.numbers part.now) from result }

@@ -18,27 +18,27 @@ use Rattle.schedule.proofs.Sorting.{goes_at, one_more, all_in_order, front, back
 
 -- ---- places
 
-pub place_at : {ks : List ℕ} → Places ks → (i : ℕ) → i < length ks → get_or ks i 0 < 200
+pub place_at : {m : ℕ} {ks : List ℕ} → Places m ks → (i : ℕ) → i < length ks → get_or ks i 0 < m
 place_at no_place i h = absurd (omega arith)
 place_at (and_place p ps) zero h = p
 place_at (and_place p ps) (suc i) h = place_at ps i (omega arith)
 
-join : {ks js : List ℕ} → Places ks → Places js → Places (ks ++ js)
+join : {m : ℕ} {ks js : List ℕ} → Places m ks → Places m js → Places m (ks ++ js)
 join no_place q = q
 join (and_place p ps) q = and_place p (join ps q)
 
-take_places : {ks : List ℕ} (n : ℕ) → Places ks → Places (take n ks)
+take_places : {m : ℕ} {ks : List ℕ} (n : ℕ) → Places m ks → Places m (take n ks)
 take_places zero ps = no_place
 take_places (suc n) no_place = no_place
 take_places (suc n) (and_place p ps) = and_place p (take_places n ps)
 
-drop_places : {ks : List ℕ} (n : ℕ) → Places ks → Places (drop n ks)
+drop_places : {m : ℕ} {ks : List ℕ} (n : ℕ) → Places m ks → Places m (drop n ks)
 drop_places zero ps = ps
 drop_places (suc n) no_place = no_place
 drop_places (suc n) (and_place p ps) = drop_places n ps
 
 -- a place is put in
-pub put_places : {ks : List ℕ} (p v : ℕ) → v < 200 → Places ks → Places (take p ks ++ v ∷ drop p ks)
+pub put_places : {m : ℕ} {ks : List ℕ} (p v : ℕ) → v < m → Places m ks → Places m (take p ks ++ v ∷ drop p ks)
 put_places p v h ps = join (take_places p ps) (and_place h (drop_places p ps))
 
 -- ---- the entries at places
@@ -66,7 +66,7 @@ entries_put es (k ∷ ks) (suc p) v = ap (λ (l : List Entry). get_or es k no_en
 
 -- the entry at place k, which is number m of the first i places
 module _ (es : List Entry) (ks : List ℕ) (i m k : ℕ) (h : m < i) (l : i ≤ length ks) (e : k ≡ get_or ks m 0) where
-  pub place_below : Places (take i ks) → k < 200
+  pub place_below : Places (length es) (take i ks) → k < length es
   place_below ps =
       let q : get_or (take i ks) m 0 ≡ get_or ks m 0 = get_or-take i ks m 0 h in
       omega (arith, place_at ps m (omega (arith, length-take-le i ks l)))
@@ -125,16 +125,16 @@ module _ (es : List Entry) (ks : List ℕ) (i : ℕ) (p : Placed es ks i) (b : i
     search_down g = halved_down day_in_order e low high m s (omega (arith, day_long)) (answer false g)
 
   -- entry i goes in where the halving ended
-  pub placed_more : (ls : List ℕ) (at : ℕ) → i < length es → i < 200 → at ≤ i → PutAt ks ls at i i
+  pub placed_more : (ls : List ℕ) (at : ℕ) → i < length es → at ≤ i → PutAt ks ls at i i
       → Searched es ks i (get_or es i no_entry) at at → Placed es ls (i + 1)
-  placed_more ls at h k u w v =
+  placed_more ls at h u w v =
       let day = entries_at es (take i ks) in
       let x = get_or es i no_entry in
       let q : take (i + 1) ls ≡ take at (take i ks) ++ i ∷ drop at (take i ks) =
       w.front ∙ ap (λ (l : List ℕ). l ++ i ∷ drop at (take i ks)) (sym (take-take at i ks u)) in
       record {
         long = w.long;
-        places = rw q (put_places at i k p.places);
+        places = rw q (put_places at i h p.places);
         in_place =
             ap (entries_at es) q ∙ entries_put es (take i ks) at i
             ∙ sym (goes_at no_entry x day at (omega (arith, day_long)) v.below (λ t. v.above at (omega arith) t))

@@ -4,7 +4,7 @@ use mathlib.Core.Path.{◌≡◌, sym, ap, ◌∙◌}
 use mathlib.Core.Bool.{true, false}
 use mathlib.Core.List.{List}
 use lib.ListN.{length, get_or, take}
-use lib.Seq.{take_at}
+use lib.Seq.{take_at, length-take-le}
 use Rattle.std.specs.Prelude.{Ok, Err}
 use Rattle.refusals.specs.declared.Refusal.{Refusal}
 use Rattle.refusals.specs.declared.Refusal.TheVariants.{Count, Number}
@@ -16,6 +16,7 @@ use Rattle.entries.proofs.Tests.{too_many, form_count, accepted_both}
 use Rattle.schedule.specs.declared.Day.{Day}
 use Rattle.schedule.specs.Days.{cleared_front, inserted, number_twice, day_refusal, day_of, day_answer}
 use Rattle.schedule.specs.Places.{IsGathered}
+use Rattle.schedule.proofs.Twice.{front_twice}
 
 module _ (es : List Entry) (n : ℕ) where
   -- ---- the numbers
@@ -69,8 +70,15 @@ module _ (es : List Entry) (n : ℕ) where
   -- ---- the day
 
   pub answer_accepted : (d : Day) (clear : List Entry) → day_refusal es n ≡ Ok tt → clear ≡ filled (cleared_front es n)
-      → IsGathered clear n d → Ok d ≡ day_answer es n
+      → IsGathered (take n clear) d → Ok d ≡ day_answer es n
   unfolding day_of
   answer_accepted d clear z c g =
-      let q : d.entries ≡ filled (inserted (cleared_front es n)) = g.entries ∙ ap (λ (l : List Entry). filled (inserted (take n l))) c ∙ ap (λ (l : List Entry). filled (inserted l)) front_of_filled in
-      (λ t. Ok (record { entries = q t; count = g.counted t })) ∙ sym (answer_is z)
+      let e : take n clear ≡ cleared_front es n = ap (take n) c ∙ front_of_filled in
+      let q : d.entries ≡ filled (inserted (cleared_front es n)) = g.entries ∙ ap (λ (l : List Entry). filled (inserted l)) e in
+      let k : d.count ≡ n = g.counted ∙ ap length e ∙ front_long in
+      (λ t. Ok (record { entries = q t; count = k t })) ∙ sym (answer_is z)
+
+-- what closes the goals of `accept`, and those of `day_of`
+pub ruleset tests = (form_count, refused_by_form, refused_twice, not_refused, front_twice)
+
+pub ruleset days = (accepted_count, answer_refused, length-take-le)

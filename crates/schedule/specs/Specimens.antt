@@ -2,7 +2,7 @@
 -- of a day is looked at.
 use Rattle.std.specs.Prelude.{ℕ, ◌-◌, Bool, true, false, ◌&&◌, List, [], ◌∷◌, ◌++◌, T, eqb, length, replicate, Result, Ok, Err}
 use Rattle.refusals.specs.declared.Refusal.{Refusal}
-use Rattle.refusals.specs.Numbers.{number_of}
+use Rattle.refusals.specs.Numbers.{status}
 use Rattle.bits.specs.Bits.{least_below, tabulate}
 use Rattle.unit.specs.Specimens.{all, same_list}
 use Rattle.orders.specs.Orders.{order, difference}
@@ -29,11 +29,6 @@ same_entries (x ∷ xs) (y ∷ ys) =
     eqb x.number y.number && eqb x.minute y.minute && eqb x.length y.length
     && same_list x.name y.name && same_entries xs ys
 
--- the number of a refusal, or 0
-abbrev pub told : {A : Type 0} → Result A Refusal → ℕ
-told (Ok a) = 0
-told (Err r) = number_of r
-
 -- the answer to these entries and n of a count
 unfoldable pub answered : List Entry → ℕ → Result Day Refusal
 answered es n = day_answer (filled es) n
@@ -49,7 +44,7 @@ makes es day = is_day (answered es (length es)) (length es) day
 
 -- n of these entries are refused with this number
 unfoldable pub refuses : List Entry → ℕ → ℕ → Bool
-refuses es n number = eqb (told (answered es n)) number
+refuses es n number = eqb (status (answered es n)) number
 
 unfoldable pub smith : List ℕ
 smith = 83 ∷ 77 ∷ 73 ∷ 84 ∷ 72 ∷ []
@@ -102,7 +97,7 @@ D6 =
 unfoldable pub D7 : Bool
 D7 =
     refuses (entered 3 630 smith ∷ entered 7 1440 smith ∷ []) 2 33
-    && eqb (told (answered (entered 3 630 smith ∷ entered 7 1440 smith ∷ []) 1)) 0
+    && eqb (status (answered (entered 3 630 smith ∷ entered 7 1440 smith ∷ []) 1)) 0
     && refuses (entered 3 1439 (replicate 33 65) ∷ []) 1 33
     && makes (entered 3 1439 (replicate 32 65) ∷ []) (clear 3 1439 (replicate 32 65) ∷ [])
 
@@ -111,7 +106,7 @@ unfoldable pub D8 : Bool
 D8 =
     refuses (entered 7 630 smith ∷ entered 7 545 jones ∷ []) 2 34
     && refuses (entered 7 630 smith ∷ entered 7 1440 jones ∷ []) 2 33
-    && eqb (told (answered (entered 7 630 smith ∷ entered 7 545 jones ∷ []) 1)) 0
+    && eqb (status (answered (entered 7 630 smith ∷ entered 7 545 jones ∷ []) 1)) 0
 
 -- D9: a count of 201, whatever the entries are
 unfoldable pub D9 : Bool

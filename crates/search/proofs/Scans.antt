@@ -26,7 +26,8 @@ use Rattle.search.specs.declared.Stepped.{Stepped}
 use Rattle.search.specs.Cursors.{moved}
 use Rattle.search.specs.Moves.{Led, Ready, Room, later_at, many_compares, missed_by, reached, rested, total}
 use Rattle.search.specs.Walk.{ordered, first_index, Ended, match_at, nowhere, plus, walk}
-use Rattle.search.proofs.Pieces.{count_some, part_of, some_left}
+use Rattle.unit.proofs.Unit.{count_some}
+use Rattle.search.proofs.Pieces.{part_of, some_left}
 use Rattle.search.proofs.Steps.{first_called, first_most, step_fits, step_index, step_none}
 use Rattle.search.proofs.Walks.{plus_plus, walk_onward}
 use Rattle.search.proofs.Turns.{led_on, led_onward, led_rested}

@@ -14,6 +14,7 @@ use native.Mathlib.Omega.{arith}
 use native.Mathlib.Nat.{not-suc-le-zero, le_of_suc-le-suc}
 use borrow.Author.Tests.{leb-true, le-leb}
 use Rattle.bits.proofs.Below.{by_test}
+use Rattle.unit.specs.Elements.{Reading}
 use Rattle.unit.specs.Operand.{count}
 use Rattle.std.specs.Prelude.{Result, Ok, Err}
 use Rattle.refusals.specs.declared.Refusal.{Refusal}
@@ -29,7 +30,7 @@ use Rattle.search.specs.Fills.{after_next, answer_of, empty_list, Fill, fill, fi
 use Rattle.search.specs.Mixed.{Call, a_next, a_fill, found_in, given_by, cursor_by, all_given, cursor_after_all}
 use Rattle.search.specs.Moves.{Walkable, Walks}
 use Rattle.search.specs.Stops.{AlikeBelow, EndsWithin, NothingPast, StopKept, WholeAtEnd}
-use Rattle.search.proofs.Refusals.{accepted_is, refused_alike}
+use Rattle.search.proofs.Refusals.{accepted_is, refusal_read, refused_alike}
 
 -- ---- where a needle stands
 
@@ -161,7 +162,7 @@ module _ (words : Bool) (text needle : List ℕ) (c : Cursor) (accepted : refusa
   abbrev cut : List ℕ
   cut = take c.stop text
 
-  pub front_length : length cut ≡ c.stop
+  front_length : length cut ≡ c.stop
   front_length = length-take-le c.stop text (accepted_is (length text) (length needle) c accepted).stop
 
   front_alike : AlikeBelow c.stop cut text
@@ -175,7 +176,7 @@ module _ (words : Bool) (text needle : List ℕ) (c : Cursor) (accepted : refusa
       }
 
   -- it may be walked
-  pub front_walkable : (l : ℕ) (list : List ℕ) → l ≡ min (count words) (length needle) → 0 < length list → Walkable words cut needle l c list
+  front_walkable : (l : ℕ) (list : List ℕ) → l ≡ min (count words) (length needle) → 0 < length list → Walkable words cut needle l c list
   front_walkable l list size places = record {
     accepted = refusal_alike words cut text needle c.stop front_alike c refl ∙ accepted;
     cut = sym front_length;
@@ -184,10 +185,27 @@ module _ (words : Bool) (text needle : List ℕ) (c : Cursor) (accepted : refusa
   }
 
   -- and its walk is the whole text's
-  pub front_walks : (list : List ℕ) (w : Walked) (list' : List ℕ) → Walks (next_match words cut needle) c list w list' → Walks (next_match words text needle) c list w list'
+  front_walks : (list : List ℕ) (w : Walked) (list' : List ℕ) → Walks (next_match words cut needle) c list w list' → Walks (next_match words text needle) c list w list'
   front_walks list w list' walks =
       let same = from_alike words cut text needle c.stop front_alike (length list) c refl in record {
         answer = walks.answer ∙ ap answer_of same;
         list_after = walks.list_after ∙ ap (λ (f : Fill). written f.positions list) same;
         one = λ e. walks.one e ∙ next_alike words cut text needle c.stop front_alike c refl;
       }
+
+-- The same of a text and a needle whose elements are read as numbers, where the code accepts them.
+module _ {A : Type 0} {numbers : List A → List ℕ} {number : A → ℕ} (r : Reading numbers number) (words : Bool) (text needle : List A) (c : Cursor) (accepted : refusal (length text) (length needle) c ≡ Ok tt) where
+  abbrev part : List A
+  part = take c.stop text
+
+  read : refusal (length (numbers text)) (length (numbers needle)) c ≡ Ok tt
+  read = refusal_read r text needle c ∙ accepted
+
+  pub part_length : c.stop ≡ length part
+  part_length = sym (length-take-le c.stop text (accepted_is (length text) (length needle) c accepted).stop)
+
+  pub part_walkable : (l b : ℕ) (list : List ℕ) → l ≡ min (length needle) b → b ≡ count words → 0 < length list → Walkable words (numbers part) (numbers needle) l c list
+  part_walkable l b list size wide places = rw (r.front c.stop text) (front_walkable words (numbers text) (numbers needle) c read l list (omega (arith, r.long needle)) places)
+
+  pub part_walks : (list : List ℕ) (w : Walked) (list' : List ℕ) → Walks (next_match words (numbers part) (numbers needle)) c list w list' → Walks (next_match words (numbers text) (numbers needle)) c list w list'
+  part_walks list w list' walks = front_walks words (numbers text) (numbers needle) c read list w list' (rw (r.front c.stop text) at walks)

@@ -2,15 +2,18 @@
 -- leads, and how the steps make up the walk. Assumes nothing.
 use Prim.Native.Nat.{ℕ, suc, ◌+◌, ◌-◌, ◌≤◌, ◌<◌, min}
 use mathlib.Core.Path.{◌≡◌, refl, sym, ap, ◌∙◌}
-use mathlib.Core.Bool.{Bool, cond}
+use mathlib.Core.Bool.{Bool, false, cond}
 use mathlib.Core.List.{List}
+use lib.Dec.{eqb}
 use lib.ListN.{length, take, drop, length-take, length-drop}
 use lib.Seq.{take-length}
 use lib.IntN.{pos}
 use native.Mathlib.Omega.{arith}
 use native.Mathlib.Nat.{add-zero}
 use Rattle.bits.proofs.Below.{by_order}
+use Rattle.unit.specs.Elements.{Reading}
 use Rattle.unit.specs.Operand.{count}
+use Rattle.unit.proofs.Elements.{part_is}
 use Rattle.unit.specs.Calls.{PCMPESTRI}
 use Rattle.blocks.specs.Blocks.{longest_text, operand_of}
 use Rattle.std.specs.Prelude.{Ok}
@@ -20,7 +23,7 @@ use Rattle.search.specs.declared.Stepped.TheVariants.{Found}
 use Rattle.search.specs.Walk.{first_index, Later, none_differs, one_differs, more, ordered, here, onward, after_later, step, Ended, match_at, nowhere, plus, walk}
 use Rattle.search.specs.Cursors.{longest_needle, most_compares, refusal, accepted, front, next_match}
 use Rattle.search.specs.Moves.{Led, Ready, ended, from, later_at, many_compares, reached, rested, found_by, missed_by, total}
-use Rattle.search.proofs.Pieces.{later_end, more_none}
+use Rattle.search.proofs.Pieces.{later_end, more_none, some_left}
 use Rattle.search.proofs.Steps.{first_called, first_most, first_within, step_empty, step_fits, step_index, step_none, step_past}
 use Rattle.search.proofs.Walks.{plus_plus, walk_here, walk_past, walk_onward, walk_compares, walk_few}
 use Rattle.search.proofs.Lists.{next_accepted}
@@ -63,44 +66,72 @@ module _ (words : Bool) (text needle : List ℕ) (c : Cursor) where
   pub led_empty : length needle ≡ 0 → c.position ≤ length text → Led words text needle c (found_by c c.compares)
   led_empty z h = rw (add-zero c.compares) at (led_here 0 (step_empty words text needle c.position z h) h)
 
--- The block at the text's end, shorter than a whole one: k is the index of its compare.
-module _ (words : Bool) (text needle first : List ℕ) (l : ℕ) (c : Cursor) (ready : Ready words text needle first l c) (some : 0 < length needle) (e k : ℕ) (o : List ℕ) where
+-- The block at the text's end, of n elements and shorter than a whole one: k is the index of its
+-- compare.
+pub record Ending (words : Bool) (text needle : List ℕ) (c : Cursor) (n k : ℕ) : Type 0 where
+  pub some : 0 < length needle
+  pub room : c.position + length needle ≤ length text
+  pub end : n ≡ length text - c.position
+  pub less : n < count words
+  pub is : k ≡ first_index words text needle c.position
+
+-- the one that code compares, of a text whose elements are read as numbers
+pub ending : {A : Type 0} {numbers : List A → List ℕ} {number : A → ℕ} (r : Reading numbers number) {words : Bool} (text needle : List A) {first o : List ℕ} {l b k : ℕ} {c : Cursor}
+    → Ready words (numbers text) (numbers needle) first l c
+    → eqb (length needle) 0 ≡ false
+    → b ≡ count words
+    → length text - (length needle - l) - c.position < b
+    → o ≡ operand_of words (numbers (take (length text - (length needle - l) - c.position) (drop c.position text)))
+    → k ≡ (PCMPESTRI first (pos l) o (pos (length text - (length needle - l) - c.position)) (ordered + cond words 1 0)).index
+    → Ending words (numbers text) (numbers needle) c (length text - (length needle - l) - c.position) k
+ending {numbers = numbers} r {words} text needle {first} {o} {l} {c = c} ready rest wide less padded is =
+    let some = some_left rest in
+    let long = r.long text in
+    let short = r.long needle in
+    let room : c.position + length (numbers needle) ≤ length (numbers text) = ready.room in
+    let size = ready.size in
+    let p = c.position in
+    let e = length text - (length needle - l) in
+    let whole : e - p ≡ length (take (e - p) (drop p (numbers text))) = rw (length-take, length-drop) (omega arith) in
+    let read : o ≡ operand_of words (take (e - p) (drop p (numbers text))) = padded ∙ ap (operand_of words) (part_is r p e text) in record {
+      some = omega arith;
+      room = room;
+      end = omega arith;
+      less = omega arith;
+      is =
+          is
+          ∙ (λ t. (PCMPESTRI first (pos l) (read t) (pos (whole t)) (ordered + cond words 1 0)).index)
+          ∙ first_called words (numbers text) (numbers needle) p (omega arith) room l e first size (omega arith) ready.operand;
+    }
+
+module _ {words : Bool} {text needle : List ℕ} {c : Cursor} {n k : ℕ} (block : Ending words text needle c n k) where
   abbrev p : ℕ
   p = c.position
 
-  module _ (end : e ≡ length text - (length needle - l)) (less : e - p < count words)
-      (is : k ≡ (PCMPESTRI first (pos l) o (pos (e - p)) (ordered + cond words 1 0)).index)
-      (ho : o ≡ operand_of words (take (e - p) (drop p text))) where
-    room : p + length needle ≤ length text
-    room = ready.room
+  some : 0 < length needle
+  some = block.some
 
-    index : k ≡ first_index words text needle p
-    index =
-        let whole : e - p ≡ length (take (e - p) (drop p text)) = rw (length-take, length-drop) (omega (arith, room)) in
-        is
-        ∙ (λ t. (PCMPESTRI first (pos l) (ho t) (pos (whole t)) (ordered + cond words 1 0)).index)
-        ∙ first_called words text needle p some room l e first ready.size (omega (arith, room, ready.size)) ready.operand
+  room : p + length needle ≤ length text
+  room = block.room
 
-    -- it found the needle
-    pub short_found : k ≡ 0 → Led words text needle c (found_by c (c.compares + 1))
-    short_found none =
-        let later = sym (more_none (later_at words text needle p (count words))) ∙ later_end words text needle p 0 (count words) (omega (arith, room, ready.size)) in
-        led_here words text needle c 1 (step_fits words text needle p some room (sym index ∙ none) ∙ ap (after_later p) later) (omega (arith, room))
+  -- it found the needle
+  pub short_found : k ≡ 0 → Led words text needle c (found_by c (c.compares + 1))
+  short_found none =
+      let later = sym (more_none (later_at words text needle p (count words))) ∙ later_end words text needle p 0 (count words) (omega (arith, block.room, block.end, block.less)) in
+      led_here words text needle c 1 (step_fits words text needle p some room (sym block.is ∙ none) ∙ ap (after_later p) later) (omega (arith, room))
 
-    -- or not
-    pub short_missed : (k ≡ 0 → ⊥) → Led words text needle c (missed_by c (min k (e - p)) (c.compares + 1))
-    short_missed other =
-        let size = ready.size in
-        let b = count words in
-        let all : e ≡ length text = omega (arith, room) in
-        let more : 0 < k = omega arith in
-        by_order k b
-        (λ below. let inside = first_within words text needle p some room k (sym index) below in
-        let by : min k (e - p) ≡ k = omega (arith, room) in
-        rw by (led_onward words text needle c (p + k) 1 k (step_index words text needle p some room k (sym index) more below) refl more (omega (arith, room))))
-        (λ above. let none : k ≡ b = omega (arith, index, first_most words text needle p some room) in
-        let by : min k (e - p) ≡ e - p = omega arith in
-        rw by (led_onward words text needle c e 1 (e - p) (step_none words text needle p some room e (sym index ∙ none) (omega (arith, room))) (omega (arith, room)) (omega (arith, room)) (omega arith)))
+  -- or not
+  pub short_missed : (k ≡ 0 → ⊥) → Led words text needle c (missed_by c (min k n) (c.compares + 1))
+  short_missed other =
+      let b = count words in
+      let more : 0 < k = omega arith in
+      by_order k b
+      (λ below. let inside = first_within words text needle p some room k (sym block.is) below in
+      let by : min k n ≡ k = omega (arith, block.end) in
+      rw by (led_onward words text needle c (p + k) 1 k (step_index words text needle p some room k (sym block.is) more below) refl more (omega (arith, room))))
+      (λ above. let none : k ≡ b = omega (arith, block.is, first_most words text needle p some room) in
+      let by : min k n ≡ n = omega (arith, block.less) in
+      rw by (led_onward words text needle c (length text) 1 n (step_none words text needle p some room (length text) (sym block.is ∙ none) (omega (arith, block.end, block.less, room))) (omega (arith, block.end, room)) (omega (arith, block.end, room, some)) (omega arith)))
 
 -- ---- the walk
 

@@ -30,7 +30,8 @@ impl Cursor {
 
     // One step of the walk or more. An empty needle is found where it is. Whole blocks go by a
     // scan, up to e, so that each leaves room for the needle; less than one is the text's end.
-    // `first` is the operand of the first l elements.
+    // `first` is the operand of the first l elements; it and l are handed on apart, as the unit
+    // takes them.
     fn step<T: Letter>(self, text: &[T], needle: &[T], first: &[u8; 16], l: usize) -> Stepped
         requires { Ready T.words (T.numbers text.now) (T.numbers needle.now) first.now l self }
         ensures { Led T.words (T.numbers text.now) (T.numbers needle.now) self result }

@@ -1,6 +1,6 @@
--- A byte of the wide mask: four bits made into four elements of ones, as `byte_mask_at` and
--- `word_mask_at` make them. What the product is, is computed for all sixteen values of four bits;
--- the law for every bit of a number follows. Stated over the width. Assumes nothing.
+-- A byte of the wide mask: four bits made into four elements of ones, as `byte_at` makes them. What
+-- the product is, is computed for all sixteen values of four bits; the law for every bit of a
+-- number follows. Stated over the width. Assumes nothing.
 use Prim.Native.Nat.{ℕ, ◌*◌, ◌/◌, ◌%◌, ◌^◌, ◌<◌}
 use mathlib.Core.Path.{◌≡◌, refl, ap, ◌∙◌}
 use mathlib.Core.Bool.{Bool, true, false, cond, ◌&&◌}

@@ -1,4 +1,6 @@
-// The fields of the control byte.
+// The fields of the control byte. They are read by functions: their types belong to `unit`, which
+// has no calls, so that no From can stand here; and two bits are always one of four, so that a
+// TryFrom would never fail.
 ghost use Rattle.std.specs.Prelude.{◌≡◌, ◌<◌};
 ghost use Rattle.unit.specs.Control.{aggregation_of, polarity_of, control_of};
 

@@ -14,9 +14,9 @@ fn index_of(high: bool, b: usize, bits: u32) -> u32
     ensures { result ≡ index_read high b bits }
 {
     if high {
-        bits::greatest(bits, b as u32)
+        bits::greatest(bits).unwrap_or(b as u32)
     } else {
-        bits::least(bits, b as u32)
+        bits::least(bits).unwrap_or(b as u32)
     }
 }
 
@@ -44,7 +44,7 @@ pub fn refused() -> IndexAnswer
 {
     let flags = status::none();
     IndexAnswer {
-        refusal: Refusal::Control.number(),
+        refusal: u32::from(Refusal::Control),
         index: 0,
         flags: flags,
     }

@@ -3,7 +3,7 @@
 // the mask (crate `unit`, specs/Readings.antt).
 //
 // Public calls, in the order in which data flows: `fields::decode`; `operand::count_of`,
-// `explicit_length`, `word`, `words_of`; `negation::negated`; `index::answer`, `mask::answer`, and
+// `explicit_length`, `words_of`; `negation::negated`; `index::answer`, `mask::answer`, and
 // of a refused call `index::refused`, `mask::refused`. None asks anything of its arguments.
 #![tactic(auto)]
 

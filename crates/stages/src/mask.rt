@@ -1,4 +1,5 @@
-// The answer of the mask calls.
+// The answer of the mask calls. It is a type of its own in `unit`, so it is made here and not with
+// that of the index calls.
 ghost use Rattle.std.specs.Prelude.{◌≡◌, ◌∷◌, ◌/◌, ◌%◌, ◌<◌, replicate};
 ghost use Rattle.unit.specs.Operand.{count};
 ghost use Rattle.unit.specs.Output.{refused_mask};
@@ -12,9 +13,10 @@ use unit::{Compared, Control, Element, MaskAnswer};
 fn bit_mask(bits: u32) -> [u8; 16]
     ensures { result ≡ (bits % 256) ∷ (bits / 256 % 256) ∷ replicate 14 0 }
 {
+    let [low, high, ..] = bits.to_le_bytes();
     let mut mask = [0u8; 16];
-    mask[0] = (bits % 256) as u8;
-    mask[1] = (bits / 256 % 256) as u8;
+    mask[0] = low;
+    mask[1] = high;
     mask
 }
 
@@ -99,7 +101,7 @@ pub fn refused() -> MaskAnswer
 {
     let flags = status::none();
     MaskAnswer {
-        refusal: Refusal::Control.number(),
+        refusal: u32::from(Refusal::Control),
         mask: [0u8; 16],
         flags: flags,
     }

@@ -4,19 +4,17 @@ ghost use Rattle.bits.specs.Bits.{number_of};
 ghost use Rattle.unit.specs.Operand.{count};
 ghost use Rattle.unit.specs.Compare.{with_polarity};
 
-use crate::operand;
-use unit::Polarity;
+use unit::{Element, Polarity};
 
 // The bits of IntRes1 that the polarity negates: none, all b, or those of operand 2's valid
 // elements.
-pub fn negated(p: Polarity, words: bool, l2: usize) -> u32
-    ensures { result ≡ number_of (count words) (λ j. with_polarity p (ltb j l2) false) }
+pub fn negated<T: Element>(p: Polarity, l2: usize) -> u32
+    ensures { result ≡ number_of (count T.words) (λ j. with_polarity p (ltb j l2) false) }
 {
-    let b = operand::count_of(words);
     match p {
         Polarity::Positive => 0,
-        Polarity::Negative => bits::first(b),
+        Polarity::Negative => bits::first(T::COUNT),
         Polarity::MaskedPositive => 0,
-        Polarity::MaskedNegative => bits::first(b.min(l2)),
+        Polarity::MaskedNegative => bits::first(T::COUNT.min(l2)),
     }
 }

@@ -1,5 +1,5 @@
 // The elements and the effective length of an operand.
-ghost use Rattle.std.specs.Prelude.{◌≡◌, ◌+◌, ◌*◌, min, nat_abs};
+ghost use Rattle.std.specs.Prelude.{◌≡◌, min, nat_abs};
 ghost use Rattle.unit.specs.Operand.{count, explicit_length, words_of};
 
 // b: how many elements an operand has.
@@ -24,13 +24,6 @@ pub fn explicit_length(words: bool, length: i64) -> usize
     count_of(words).min(magnitude(length))
 }
 
-// A word of two bytes, low byte first.
-pub fn word(low: u8, high: u8) -> u16
-    ensures { result ≡ low + 256 * high }
-{
-    (low as u16) + 256 * (high as u16)
-}
-
 // The eight words of an operand, low byte first.
 pub fn words_of(x: [u8; 16]) -> [u16; 8]
     ensures { result ≡ words_of x }
@@ -38,7 +31,7 @@ pub fn words_of(x: [u8; 16]) -> [u16; 8]
     let mut a = [0u16; 8];
     for i in 0..8 {
         let at = 2 * i;
-        a[i] = word(x[at], x[at + 1]);
+        a[i] = u16::from_le_bytes([x[at], x[at + 1]]);
     }
     a
 }

@@ -162,7 +162,7 @@ odd_bit n p h =
     let e : number_of n p / 2 ^ 0 ≡ number_of n p = omega arith in
     rw e at (number_set n 0 p h)
 
-count_some : (w : Bool) → 0 < count w
+pub count_some : (w : Bool) → 0 < count w
 count_some true = omega arith
 count_some false = omega arith
 
@@ -217,6 +217,15 @@ explicit_most b z = omega arith
 pub cut_explicit : (b n k : ℕ) → k ≡ min b n → k ≡ explicit_length b (pos n)
 unfolding explicit_length
 cut_explicit b n k e = e
+
+-- a length that was cut already
+cut_again : (b n : ℕ) (z : ℤ) → n ≡ explicit_length b z → explicit_length b (pos n) ≡ explicit_length b z
+unfolding explicit_length
+cut_again b n z e = omega (arith, e)
+
+pub explicit_again : (x₁ : List ℕ) (z₁ : ℤ) (x₂ : List ℕ) (z₂ : ℤ) (k : Control) (n₁ n₂ : ℕ) → n₁ ≡ explicit_length (count k.words) z₁ → n₂ ≡ explicit_length (count k.words) z₂ → explicit x₁ (pos n₁) x₂ (pos n₂) k ≡ explicit x₁ z₁ x₂ z₂ k
+explicit_again x₁ z₁ x₂ z₂ k n₁ n₂ e₁ e₂ =
+    λ t. operands k (elements k.words x₁) (cut_again (count k.words) n₁ z₁ e₁ t) (elements k.words x₂) (cut_again (count k.words) n₂ z₂ e₂ t)
 
 pub words_count : (x : List ℕ) → length (words_of x) ≡ 8
 unfolding words_of

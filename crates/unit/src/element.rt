@@ -61,3 +61,16 @@ impl Element for u16 {
 
     ghost alike = { λ x y. refl };
 }
+
+// An element of which an operand has N.
+pub trait Block<const N: usize>: Element {
+    ghost sized: { N ≡ Self.COUNT };
+}
+
+impl Block<16> for u8 {
+    ghost sized = { refl };
+}
+
+impl Block<8> for u16 {
+    ghost sized = { refl };
+}

@@ -1,12 +1,12 @@
 // The string compare unit of SSE4.2 as a definition: its types here, what they mean in specs/
 // (after the Intel SSE4 Programming Reference, section 5.3 and the four instruction pages), its
 // laws in proofs/. There is no function here: `stages` and `modes` compute it and `pcmpstr` has the
-// calls. `Element` is a byte or a word.
+// calls. `Element` is a byte or a word, `Block` one of which an operand has N.
 #![tactic(auto)]
 
 mod element;
 
-pub use element::Element;
+pub use element::{Block, Element};
 
 // How the comparisons of single elements are aggregated into IntRes1: control bits 3:2.
 #[derive(Clone, Copy)]
@@ -49,8 +49,10 @@ pub struct Flags {
 }
 
 // The answer of the index calls. Accepted, `refusal` is 0. Refused, it is the number, and every
-// other field is zero or false: a field and no Result, since the theorem `masks_hold`
-// (specs/Specimens.antt) reads the fields of a refused answer.
+// other field is zero or false: a field and no Result, since clauses and theorems read the other
+// fields of an answer, as `index` of PCMPESTRI in the clause of `pcmpestri_0c`, and of a refused
+// one too (`masks_hold`, specs/Specimens.antt). Two types and no generic one: these name the field
+// by what it is, `index`, or `mask` as `masks_widen` does (specs/Selection.antt).
 #[derive(Clone, Copy)]
 pub struct IndexAnswer {
     pub refusal: u32,

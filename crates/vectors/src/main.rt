@@ -152,7 +152,8 @@ fn fold_mask(digest: u64, answer: unit::MaskAnswer) -> u64 {
 }
 
 // A byte of one of four alphabets: any byte, two letters, the edges, or four letters with zeros
-// between, which end an implicit length.
+// between, which end an implicit length. The alphabet is a number, since it is drawn as one, as in
+// tests/vectors/silicon.c: an enum would be made of it by one match, and taken apart by another.
 fn letter(alphabet: u64, draw: u64) -> u8 {
     match alphabet {
         0 => (draw % 256) as u8,
@@ -186,7 +187,7 @@ fn needle(text: [u8; 16], draw: u64) -> [u8; 16] {
 }
 
 // Operand 1 by its relation to operand 2: another draw, the same bytes, all but one the same, or a
-// needle in it.
+// needle in it. The relation is a drawn number, for the same reason as the alphabet of `letter`.
 fn related(relation: u64, text: [u8; 16], other: [u8; 16], draw: u64) -> [u8; 16] {
     match relation {
         0 => other,

@@ -8,9 +8,10 @@ use native.Mathlib.Omega.{arith}
 use native.Mathlib.Numerals.{add-one}
 use lib.ListN.{length, get_or, set, take, drop, length-append, length-take, length-drop}
 use lib.Seq.{take-suc}
+use Rattle.std.proofs.lemmas.List.{take_rest}
 use Rattle.decimal.specs.Decimal.{column, written}
 use Rattle.decimal.proofs.Columns.{length_column, writes}
-use Rattle.decimal.proofs.Pages.{byte_put, length_kept, part_put, line_put, tail}
+use Rattle.decimal.proofs.Pages.{byte_put, length_kept, part_put, line_put}
 use Rattle.entries.specs.declared.Entry.{Entry}
 use Rattle.entries.specs.Entries.{bad_entry, name_of, no_entry}
 use Rattle.entries.proofs.Tests.{good_length}
@@ -65,7 +66,7 @@ next_part x y b page part n w h l r e =
 
 -- how long that part is
 pub length_part : (x b page : List ℕ) (n : ℕ) → Begins x n b page → length (part_from n page) ≡ length b - n
-length_part x b page n h = rw (tail page n, length-drop, as_long x b page n h)
+length_part x b page n h = rw (take_rest page n, length-drop, as_long x b page n h)
 
 -- ---- a line
 

@@ -2,7 +2,9 @@
 use Prim.Native.Nat.{ℕ, ◌*◌, ◌≤◌, ◌<◌}
 use mathlib.Core.Path.{◌≡◌, sym, ◌∙◌}
 use mathlib.Core.List.{List}
-use lib.ListN.{length}
+use native.Mathlib.Omega.{arith}
+use lib.ListN.{length, take}
+use lib.Seq.{length-take-le, get_or-take}
 use borrow.Author.Tests.{lt-ltb, le-ltb}
 use Rattle.std.specs.Prelude.{Result, Ok, Err}
 use Rattle.refusals.specs.declared.Refusal.{Refusal}
@@ -10,9 +12,10 @@ use Rattle.refusals.specs.declared.Refusal.TheVariants.{Count, Page}
 use Rattle.bits.proofs.Below.{by_order}
 use Rattle.decimal.proofs.Columns.{by_answer}
 use Rattle.entries.specs.declared.Entry.{Entry}
-use Rattle.entries.specs.Entries.{form_refusal}
-use Rattle.entries.proofs.Tests.{too_many, accepted_both}
+use Rattle.entries.specs.Entries.{form_refusal, no_entry}
+use Rattle.entries.proofs.Tests.{too_many, form_count, form_good, accepted_both}
 use Rattle.wall_page.specs.Pages.{page_of, page_refusal, page_after, DayPage}
+use Rattle.wall_page.specs.Writers.{Room, HasLines}
 
 module _ (es : List Entry) (n : ℕ) where
   -- ---- the numbers
@@ -64,3 +67,23 @@ module _ (es : List Entry) (n : ℕ) where
   accepted b after e h p =
       let z = not_refused (length b) e h in
       record { answer = sym z; page = p ∙ sym (page_written b z) }
+
+  -- ---- the entries within the count
+
+  module _ (h : length es ≡ 200) (e : form_refusal es n ≡ Ok tt) where
+    pub first_long : length (take n es) ≡ n
+    first_long = length-take-le n es (omega (arith, form_count es n e))
+
+    pub first_fit : (b : List ℕ) → 50 * n ≤ length b → Room (take n es) b
+    first_fit b r =
+        record {
+          good = λ i u. rw (get_or-take n es i no_entry (omega (arith, first_long))) (form_good es n e i (omega (arith, first_long)));
+          room = omega (arith, first_long);
+        }
+
+    pub first_written : (b after : List ℕ) → HasLines (take n es) b after → after ≡ page_of es n b
+    unfolding page_of
+    first_written b after w = rw first_long at w
+
+-- what closes the bounds of `day_page` and what `put_lines` asks
+pub ruleset bounds = (form_count, first_long, first_fit)

@@ -2,7 +2,8 @@
 -- Every byte of a line and of a page is looked at.
 use Rattle.std.specs.Prelude.{ℕ, ◌-◌, Bool, ◌&&◌, List, [], ◌∷◌, ◌++◌, T, eqb, length, replicate}
 use Rattle.decimal.specs.Decimal.{digits, digits_within, column}
-use Rattle.decimal.specs.Specimens.{all, same, told}
+use Rattle.refusals.specs.Numbers.{status}
+use Rattle.decimal.specs.Specimens.{all, same}
 use Rattle.entries.specs.declared.Entry.{Entry}
 use Rattle.entries.specs.Entries.{name_of, bad_entry, form_refusal}
 use Rattle.wall_page.specs.Pages.{time_of, printed_byte, name_column, line_of, lines_of, page_of, page_refusal, page_after}
@@ -75,12 +76,12 @@ blank n = replicate n 35
 
 -- n of these entries are written on a page of so many bytes, which is then this
 unfoldable pub writes : List Entry → ℕ → ℕ → List ℕ → Bool
-writes es n room page = eqb (told (page_refusal es n room)) 0 && same (page_after es n (blank room)) page
+writes es n room page = eqb (status (page_refusal es n room)) 0 && same (page_after es n (blank room)) page
 
 -- they are refused with this number, and the page is as it was
 unfoldable pub refuses : List Entry → ℕ → ℕ → ℕ → Bool
 refuses es n room number =
-    eqb (told (page_refusal es n room)) number && same (page_after es n (blank room)) (blank room)
+    eqb (status (page_refusal es n room)) number && same (page_after es n (blank room)) (blank room)
 
 -- P5: a page that fits, one byte long and one byte short
 unfoldable pub P5 : Bool
@@ -113,8 +114,8 @@ P7 =
 -- P8: 200 entries, and 201; 32 before 33 and 35
 unfoldable pub P8 : Bool
 P8 =
-    eqb (told (page_refusal (replicate 200 seven) 200 10000)) 0
-    && eqb (told (page_refusal (replicate 200 seven) 200 9999)) 35
+    eqb (status (page_refusal (replicate 200 seven) 200 10000)) 0
+    && eqb (status (page_refusal (replicate 200 seven) 200 9999)) 35
     && refuses (replicate 200 minute_bad) 201 10 32
 
 pub pages_hold : T (all (P1 ∷ P2 ∷ P3 ∷ P4 ∷ P5 ∷ P6 ∷ P7 ∷ P8 ∷ []))

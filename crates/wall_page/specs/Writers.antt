@@ -1,8 +1,8 @@
 -- What the private functions of the page ask and say. A reader of the public call needs none of it.
-use Rattle.std.specs.Prelude.{ℕ, ◌*◌, ◌≤◌, ◌≡◌, false, List, ◌++◌, length, drop, Ok}
+use Rattle.std.specs.Prelude.{ℕ, ◌*◌, ◌≤◌, ◌<◌, ◌≡◌, false, List, ◌++◌, length, get_or, drop}
 use Rattle.entries.specs.declared.Entry.{Entry}
-use Rattle.entries.specs.Entries.{last_minute, longest_name, bad_entry, form_refusal}
-use Rattle.wall_page.specs.Pages.{line_bytes, line_of, page_of}
+use Rattle.entries.specs.Entries.{last_minute, longest_name, bad_entry, no_entry}
+use Rattle.wall_page.specs.Pages.{line_bytes, line_of, lines_of}
 
 -- a minute of the day, and a page with room for its time
 pub record TimeFits (minute : ℕ) (page : List ℕ) : Type 0 where
@@ -26,10 +26,10 @@ pub record HasLine (e : Entry) (before after : List ℕ) : Type 0 where
   pub long : length (line_of e) ≡ line_bytes
 
 -- entries that are not refused, and a page with room for their lines
-pub record Room (es : List Entry) (n : ℕ) (page : List ℕ) : Type 0 where
-  pub accepted : form_refusal es n ≡ Ok tt
-  pub room : line_bytes * n ≤ length page
+pub record Room (es : List Entry) (page : List ℕ) : Type 0 where
+  pub good : (i : ℕ) → i < length es → bad_entry (get_or es i no_entry) ≡ false
+  pub room : line_bytes * length es ≤ length page
 
--- the lines of the first n entries were written
-abbrev pub HasLines : List Entry → ℕ → List ℕ → List ℕ → Type 0
-HasLines es n before after = after ≡ page_of es n before
+-- the lines of the entries were written at the front of the page, the rest of it is as before
+abbrev pub HasLines : List Entry → List ℕ → List ℕ → Type 0
+HasLines es before after = after ≡ lines_of es ++ drop (line_bytes * length es) before

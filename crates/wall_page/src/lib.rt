@@ -48,6 +48,8 @@ fn name_byte(byte: u8, at: usize, length: usize) -> u8
 }
 
 // Writes a minute of the day as hours and minutes, of two digits each, at the front of the page.
+// By hand, since of a `write!` into a slice the check learns only how much of it is left, and not
+// the bytes.
 fn put_time(minute: u16, page: &mut [u8])
     requires { TimeFits minute page.old }
     ensures { page.new ≡ time_of minute ++ drop 5 page.old }
@@ -61,7 +63,9 @@ fn put_time(minute: u16, page: &mut [u8])
     page[4] = b'0' + (minutes % 10) as u8;
 }
 
-// Writes a name in its columns, with spaces after it, at the front of the page.
+// Writes a name in its columns, with spaces after it, at the front of the page. It takes all bytes
+// and the length, and no slice, for one loop of 32 turns whatever the length (docs/PERFORMANCE.md,
+// "Pages").
 fn put_name(name: [u8; entries::LONGEST_NAME], size: usize, page: &mut [u8])
     requires { NameFits size page.old }
     ensures { page.new
@@ -85,19 +89,20 @@ fn put_line(e: Entry, page: &mut [u8])
     page[NAME_END] = b'\n';
 }
 
-// Writes the lines of the first `count` entries, each at its own byte of the page.
-fn put_lines(entries: [Entry; entries::MOST_ENTRIES], count: usize, page: &mut [u8])
-    requires { Room entries count page.old }
-    ensures { HasLines entries count page.old page.new }
+// Writes the lines of some entries, each at its own byte of the page.
+fn put_lines(entries: &[Entry], page: &mut [u8])
+    requires { Room entries.now page.old }
+    ensures { HasLines entries.now page.old page.new }
 {
-    for r in 0..count {
-        put_line(entries[r], &mut page[DAY_LINE * r..]);
+    for (r, e) in entries.iter().enumerate() {
+        put_line(*e, &mut page[DAY_LINE * r..]);
     }
 }
 
 // Writes a line for each of the first `count` entries, in the order in which they stand, at the
 // front of the page; the bytes after the last line stay. Refused, it writes nothing. Entries past
-// the count are not looked at.
+// the count are not looked at. README.md promises an array and a count.
+#[tactic(auto, using(crate::proofs::Refused::bounds))]
 pub fn day_page(
     entries: [Entry; entries::MOST_ENTRIES],
     count: usize,
@@ -109,6 +114,6 @@ pub fn day_page(
     if page.len() < DAY_LINE * count {
         return Err(Refusal::Page);
     }
-    put_lines(entries, count, page);
+    put_lines(&entries[..count], page);
     Ok(())
 }

@@ -13,7 +13,8 @@ use Rattle.bits.proofs.Below.{by_order}
 use Rattle.unit.specs.Operand.{count}
 use Rattle.search.specs.Walk.{Later, none_differs, one_differs, more, piece_differs, after_piece, later, here, onward, after_later, block, first_index, step, match_at, nowhere, walk, plus}
 use Rattle.search.proofs.Compare.{FitsAt, ordered_before, ordered_at, each_differs}
-use Rattle.search.proofs.Pieces.{pieces, pieces_more, count_some, later_none, later_some, LaterOk, later_ok}
+use Rattle.unit.proofs.Unit.{count_some}
+use Rattle.search.proofs.Pieces.{pieces, pieces_more, later_none, later_some, LaterOk, later_ok}
 use Rattle.search.proofs.Steps.{step_fits, step_index, step_past}
 use Rattle.search.proofs.Walks.{walk_here, walk_onward, walk_past}
 use Rattle.worst_case.specs.Cases.{letter_a, letter_b}

@@ -21,7 +21,8 @@ use Rattle.search.specs.Walk.{Ended, match_at, after, count_from, walk, walk_cou
 use Rattle.search.specs.Cursors.{fresh_cursor, longest_needle, refusal}
 use Rattle.search.specs.Calls.{cursor_after}
 use Rattle.search.specs.Mixed.{Call, asked_by, cursor_after_all}
-use Rattle.search.proofs.Pieces.{pieces, count_some}
+use Rattle.unit.proofs.Unit.{count_some}
+use Rattle.search.proofs.Pieces.{pieces}
 use Rattle.search.proofs.Steps.{positions_end}
 use Rattle.search.proofs.Walks.{WalkOk, walk_ok}
 use Rattle.search.proofs.Lists.{refused_unchanged, fresh_positions, calls_find_whole}

@@ -1,6 +1,7 @@
 -- Worked cases of the slowest search, in both widths, with a check for each kind: searches and
 -- refusals.
 use Rattle.std.specs.Prelude.{ℕ, ◌+◌, Bool, ◌&&◌, [], ◌∷◌, T, eqb}
+use Rattle.refusals.specs.Numbers.{status}
 use Rattle.bits.specs.Bits.{least_below, greatest_below, tabulate, number_of}
 use Rattle.blocks.specs.Blocks.{longest_text, operand_of, compare_index}
 use Rattle.unit.specs.Control.{control_of}
@@ -11,7 +12,7 @@ use Rattle.unit.specs.Calls.{PCMPESTRI}
 use Rattle.unit.specs.Specimens.{all, same_list}
 use Rattle.search.specs.Walk.{later, walk}
 use Rattle.search.specs.Cursors.{fresh_cursor, longest_needle, refusal, next_match}
-use Rattle.search.specs.Calls.{found, absent, number_by, said_by, cursor_after}
+use Rattle.search.specs.Calls.{found, absent, said_by, cursor_after}
 use Rattle.search.specs.Specimens.{same}
 use Rattle.worst_case.specs.Cases.{worst, case_refusal}
 
@@ -55,7 +56,7 @@ searches_hold = tt
 
 -- what a call with buffers of just n and m elements answers
 abbrev pub answers : Bool → ℕ → ℕ → ℕ → Bool
-answers words n m number = eqb (number_by (case_refusal words n m n m)) number
+answers words n m number = eqb (status (case_refusal words n m n m)) number
 
 -- the largest number that a caller can hand over
 abbrev pub largest : ℕ
@@ -79,10 +80,10 @@ H6 =
 -- H7: a buffer that is one shorter or one longer; and 36 before 37
 unfoldable pub H7 : Bool
 H7 =
-    eqb (number_by (case_refusal in_bytes 17 16 17 16)) 0 && eqb (number_by (case_refusal in_bytes 17 16 16 16)) 37
-    && eqb (number_by (case_refusal in_bytes 17 16 18 16)) 37 && eqb (number_by (case_refusal in_bytes 17 16 17 15)) 37
-    && eqb (number_by (case_refusal in_bytes 17 16 17 17)) 37 && eqb (number_by (case_refusal in_bytes 17 16 16 17)) 37
-    && eqb (number_by (case_refusal in_bytes 17 15 16 16)) 36 && eqb (number_by (case_refusal in_words 9 8 0 0)) 37
+    eqb (status (case_refusal in_bytes 17 16 17 16)) 0 && eqb (status (case_refusal in_bytes 17 16 16 16)) 37
+    && eqb (status (case_refusal in_bytes 17 16 18 16)) 37 && eqb (status (case_refusal in_bytes 17 16 17 15)) 37
+    && eqb (status (case_refusal in_bytes 17 16 17 17)) 37 && eqb (status (case_refusal in_bytes 17 16 16 17)) 37
+    && eqb (status (case_refusal in_bytes 17 15 16 16)) 36 && eqb (status (case_refusal in_words 9 8 0 0)) 37
 
 pub refusals_hold : T (all (H5 ∷ H6 ∷ H7 ∷ []))
 unfolding H5 H6 H7

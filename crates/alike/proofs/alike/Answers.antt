@@ -16,11 +16,11 @@ sixteen_bytes false n e h = e
 pub returns-then-this-lt16 : goal.returns-then-this-lt16
 returns-then-this-lt16 g c =
     let same = λ (j : ℕ). eqb (get_or (g.T.Element.numbers c.args.x.now) j 0) (get_or (g.T.Element.numbers c.args.y.now) j 0) in
-    rw (eight_words g.T.Element.words g.row.N (c.requires ∙ g.T.Element.counted) c.if-this-lt16.true)
+    rw (eight_words g.T.Element.words g.row.N (g.met.T.Block.sized ∙ g.T.Element.counted) c.if-this-lt16.true)
     (omega (arith, c.eight.ensures.0, number_eight same))
 
 pub returns : goal.returns
 returns g c =
     let same = λ (j : ℕ). eqb (get_or (g.T.Element.numbers c.args.x.now) j 0) (get_or (g.T.Element.numbers c.args.y.now) j 0) in
-    rw (sixteen_bytes g.T.Element.words g.row.N (c.requires ∙ g.T.Element.counted) c.if-this-lt16.false)
+    rw (sixteen_bytes g.T.Element.words g.row.N (g.met.T.Block.sized ∙ g.T.Element.counted) c.if-this-lt16.false)
     (omega (arith, c.eight-2.ensures.0, c.eight-3.ensures.0, number_sixteen same))

@@ -1,10 +1,7 @@
 -- Each turn stores the last of the digits that are left.
 use Rattle.std.proofs.Common.{arith}
-use Rattle.decimal.proofs.Stores.{left_all, left_less}
+use Rattle.decimal.proofs.Stores.{left_less}
 use Rattle.decimal.proofs.put_digits.Goals as goal
-
-pub loop-i-init : goal.loop-i-init
-loop-i-init c = left_all c.args.number c.args.places.now c.requires
 
 pub loop-i-preserved : goal.loop-i-preserved
 loop-i-preserved c =

@@ -3,7 +3,7 @@ use Prim.Native.Nat.{◌*◌}
 use mathlib.Core.Path.{◌∙◌}
 use native.Mathlib.Omega.{arith}
 use lib.ListN.{length-drop}
-use Rattle.decimal.proofs.Pages.{tail}
+use Rattle.std.proofs.lemmas.List.{take_rest}
 use Rattle.report.proofs.Listings.{compares_few, found_fits, listing_put}
 use Rattle.report.proofs.put_listing.Goals as goal
 
@@ -28,7 +28,7 @@ put_totals-requires c =
     let t = c.put_matches-tally.result in (
       omega (arith, fits.0),
       omega (arith, c.put_matches-tally.ensures.compares, compares_few c.args.text.now c.args.needle.now c.requires.small c.requires.short),
-      rw (tail c.put_matches-tally.new.page (t.matches * 9), length-drop) (omega (arith, fits.1)),
+      rw (take_rest c.put_matches-tally.new.page (t.matches * 9), length-drop) (omega (arith, fits.1)),
     )
 
 pub overflow_add-result : goal.overflow_add-result

@@ -5,7 +5,7 @@ use lib.ListN.{length}
 use Rattle.refusals.specs.declared.Refusal.TheVariants.{Count}
 use Rattle.layout.specs.Layout.{entries_of}
 use Rattle.wall_page.proofs.Refused.{many_refused, page_err}
-use Rattle.capi.specs.Crossing.{status}
+use Rattle.refusals.specs.Numbers.{status}
 use Rattle.capi.proofs.page.hx_day_page.Goals as goal
 
 pub returns-then-n-gt-MOST_ENTRIES : goal.returns-then-n-gt-MOST_ENTRIES
@@ -14,4 +14,4 @@ returns-then-n-gt-MOST_ENTRIES c =
     let es = entries_of a.entries.now in
     let n = length a.entries.now in
     let r = many_refused es n (length a.page.now) c.if-n-gt-MOST_ENTRIES.true in
-    record { status_is = c.number.ensures ∙ sym (ap status r); new_page = sym (page_err es n a.page.now Count r) }
+    record { status_is = c.from.ensures ∙ sym (ap status r); new_page = sym (page_err es n a.page.now Count r) }

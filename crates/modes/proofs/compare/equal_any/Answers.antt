@@ -8,13 +8,13 @@ use Rattle.modes.proofs.compare.equal_any.Goals as goal
 
 pub loop-i-init : goal.loop-i-init
 loop-i-init g c =
-    let few = most g.T.Element.words g.row.N (g.met.T.Mode.sized ∙ g.T.Element.counted) in
+    let few = most g.T.Element.words g.row.N (g.met.T.Block.sized ∙ g.T.Element.counted) in
     any_start g.row.N (g.T.Element.numbers c.args.x1.now) (g.T.Element.numbers c.args.x2.now) c.args.l2 few c.requires.1
 
 pub loop-i-preserved : goal.loop-i-preserved
 loop-i-preserved g c =
     let n = g.row.N in
-    let few = most g.T.Element.words n (g.met.T.Mode.sized ∙ g.T.Element.counted) in
+    let few = most g.T.Element.words n (g.met.T.Block.sized ∙ g.T.Element.counted) in
     let y = c.index-x1-i in
     let x₂ = g.T.Element.numbers c.args.x2.now in
     let read = g.T.Element.reads.at c.args.x1.now c.loop-i.i y.result (omega (arith, c.told-x1)) y.is in
@@ -23,7 +23,7 @@ loop-i-preserved g c =
 pub returns-then-found-valid : goal.returns-then-found-valid
 returns-then-found-valid g c =
     let n = g.row.N in
-    let few = most g.T.Element.words n (g.met.T.Mode.sized ∙ g.T.Element.counted) in
+    let few = most g.T.Element.words n (g.met.T.Block.sized ∙ g.T.Element.counted) in
     let y = c.index-x1-i in
     let x₁ = g.T.Element.numbers c.args.x1.now in
     let x₂ = g.T.Element.numbers c.args.x2.now in

@@ -1,3 +1,4 @@
+-- The bits of the valid elements of x2 that are among the first i of x1.
 use Rattle.std.proofs.Common.{◌≡◌}
 use Rattle.bits.specs.Bits.{number_of}
 use Rattle.unit.specs.Modes.{any_of}

@@ -8,6 +8,6 @@ use Rattle.modes.proofs.compare.equal_each.Goals as goal
 pub returns : goal.returns
 returns g c =
     let n = g.row.N in
-    let few = most g.T.Element.words n (c.requires.0 ∙ g.T.Element.counted) in
-    each_made n _ c.args.l1 _ c.args.l2 c.alike.result c.first-v1.result c.first-v2.result c.first.result few c.requires.1 c.requires.2
+    let few = most g.T.Element.words n (g.met.T.Block.sized ∙ g.T.Element.counted) in
+    each_made n _ c.args.l1 _ c.args.l2 c.alike.result c.first-v1.result c.first-v2.result c.first.result few c.requires.0 c.requires.1
     (ones n c.first.result few c.first.ensures) c.alike.ensures c.first-v1.ensures c.first-v2.ensures

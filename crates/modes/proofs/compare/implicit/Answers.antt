@@ -6,4 +6,4 @@ use Rattle.modes.proofs.compare.implicit.Goals as goal
 
 pub compared-requires : goal.compared-requires
 compared-requires g c =
-    (search rules, (c.requires, rw c.implicit_length-l1.ensures (least_within g.row.N _), rw c.implicit_length-l2.ensures (least_within g.row.N _)))
+    (search rules, (rw c.implicit_length-l1.ensures (least_within g.row.N _), rw c.implicit_length-l2.ensures (least_within g.row.N _)))

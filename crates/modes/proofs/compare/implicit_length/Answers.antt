@@ -1,20 +1,9 @@
 -- `modes::compare::implicit_length` meets its contract. The invariant: none of the first i elements
 -- is zero. Assumes nothing.
 use Rattle.std.proofs.Common.{◌∙◌, sym, arith, eqb, get_or}
-use borrow.Author.Tests.{eqb-true, eqb-false, eq-eqb, ne_eqb}
-use borrow.Author.Count.{below_more}
+use borrow.Author.Tests.{eqb-true, eq-eqb, ne_eqb}
 use Rattle.bits.proofs.Below.{least_at, least_none}
 use Rattle.modes.proofs.compare.implicit_length.Goals as goal
-
-pub loop-i-preserved : goal.loop-i-preserved
-loop-i-preserved g c =
-    let y = c.index-x-i in
-    let z = c.zero in
-    let read = g.T.Element.reads.at c.args.x.now c.loop-i.i y.result (omega (arith, c.told-x)) y.is in
-    below_more _ c.loop-i.i c.loop-i.invariant
-    (λ e. eqb-false (g.T.Element.number y.result) (g.T.Element.number z.result)
-    (sym (g.met.T.Element.alike y.result z.result) ∙ rw (← y.is) at (sym c.eq.ensures ∙ c.if-eq.false))
-    (sym read ∙ e ∙ sym z.ensures))
 
 pub returns-then-eq : goal.returns-then-eq
 returns-then-eq g c =

@@ -1,3 +1,4 @@
+-- None of the first i elements is zero.
 use Rattle.std.proofs.Common.{◌≡◌, ℕ, ◌<◌, get_or}
 use Rattle.modes.proofs.compare.implicit_length.Given as goal
 

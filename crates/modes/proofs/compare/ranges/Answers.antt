@@ -30,6 +30,6 @@ loop-i-preserved g c =
 pub returns : goal.returns
 returns g c =
     let e = g.T.Element in
-    let few = most e.words g.row.N (g.met.T.Mode.sized ∙ e.counted) in
+    let few = most e.words g.row.N (g.met.T.Block.sized ∙ e.counted) in
     let n : c.loop-i.i ≡ c.args.n = omega arith in
     ranges_made g.row.N (2 ^ bits_of e.words - 1) (value_of e.words c.args.signed) (e.numbers c.args.x1.now) (e.numbers c.args.x2.now) c.args.n c.args.l2 c.marked.result c.first.result (e.numbers c.loop-i.row) (some_bit e.words) few c.requires.1 (rw n at c.loop-i.invariant) c.marked.ensures c.first.ensures

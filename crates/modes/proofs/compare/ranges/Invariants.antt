@@ -1,3 +1,4 @@
+-- The row marks the elements of x2 that lie in one of the first i ranges.
 use Rattle.std.proofs.Common.{◌≡◌, ◌-◌, ◌^◌}
 use Rattle.unit.specs.Operand.{bits_of, value_of}
 use Rattle.unit.proofs.Modes.{row_to}

@@ -2,7 +2,7 @@
 -- marked. Assumes nothing.
 use Rattle.std.proofs.Common.{◌≡◌, ◌∙◌, refl, sym, ap, ℕ, ◌-◌, ◌^◌, cond, get_or, arith}
 use Rattle.bits.specs.Bits.{tabulate}
-use Rattle.bits.proofs.Lists.{fill, filled}
+use Rattle.bits.proofs.Lists.{fill}
 use Rattle.unit.specs.Operand.{bits_of, value_of}
 use Rattle.unit.specs.Modes.{between}
 use Rattle.std.proofs.lemmas.List.{length-set}
@@ -42,8 +42,3 @@ loop-j-preserved g c =
           (fill (numbers row) j mark (number v) (rw reads.long (omega (arith, c.loop-j.invariant.0))) c.loop-j.invariant.1 made),
       λ n h. rw reads.stored (get_or-set_other (numbers row) j n (number v) 0 (λ e. omega (arith, e)) ∙ c.loop-j.invariant.2 n (omega arith)),
     )
-
-pub returns : goal.returns
-returns g c =
-    let e : c.loop-j.j ≡ g.row.N = omega arith in
-    filled (g.T.Element.numbers c.loop-j.row) g.row.N _ (g.T.Element.reads.long c.loop-j.row ∙ c.loop-j.invariant.0) (rw e at c.loop-j.invariant.1)

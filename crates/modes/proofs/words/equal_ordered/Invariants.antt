@@ -1,3 +1,4 @@
+-- Bit j of `left` says that the first i elements of x1 stand in x2 from j on.
 use mathlib.Core.Path.{◌≡◌}
 use Rattle.bits.specs.Bits.{number_of}
 use Rattle.unit.proofs.Modes.{standing_to}

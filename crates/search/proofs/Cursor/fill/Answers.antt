@@ -1,13 +1,11 @@
 -- A refused call, an empty list, or a walk over the text cut at the stop. Assumes nothing.
 use mathlib.Core.Path.{refl, sym, ◌∙◌}
 use lib.ListN.{length}
-use lib.Seq.{length-take-le}
-use native.Mathlib.Omega.{arith}
 use borrow.Author.Tests.{eqb-true}
 use Rattle.search.specs.declared.End.TheVariants.{Full, Stopped}
 use Rattle.search.proofs.Pieces.{some_left}
-use Rattle.search.proofs.Refusals.{accepted_is, refusal_read}
-use Rattle.search.proofs.Stops.{front_walkable, front_walks}
+use Rattle.search.proofs.Refusals.{refusal_read}
+use Rattle.search.proofs.Stops.{part_length, part_walkable, part_walks}
 use Rattle.search.proofs.Fills.{fill_empty, fill_refused, unwritten, walked}
 use Rattle.search.proofs.Cursor.fill.Goals as goal
 
@@ -38,24 +36,17 @@ returns-then-is_empty g c =
 pub slice_bounds-walk-end : goal.slice_bounds-walk-end
 slice_bounds-walk-end g c =
     let a = c.args in
-    sym (length-take-le a.self.stop a.text.now (accepted_is _ _ a.self (sym c.accept.ensures ∙ c.in_default.is)).stop)
+    part_length g.T.Element.reads g.T.Element.words a.text.now a.needle.now a.self (sym c.accept.ensures ∙ c.in_default.is)
 
 -- a walk
 pub walk-w-requires : goal.walk-w-requires
 walk-w-requires g c =
     let a = c.args in
-    let r = g.T.Element.reads in
-    let accepted = refusal_read r a.text.now a.needle.now a.self ∙ sym c.accept.ensures ∙ c.in_default.is in
-    rw (r.front a.self.stop a.text.now)
-    (front_walkable g.T.Element.words (g.T.Element.numbers a.text.now) (g.T.Element.numbers a.needle.now) a.self accepted _ _ (omega (arith, c.min-l.ensures, c.COUNT.ensures, g.T.Element.counted, r.long a.needle.now)) (some_left (sym c.is_empty.ensures ∙ c.if-is_empty.false)))
+    part_walkable g.T.Element.reads g.T.Element.words a.text.now a.needle.now a.self (sym c.accept.ensures ∙ c.in_default.is) _ _ _ c.min-l.ensures (c.COUNT.ensures ∙ g.T.Element.counted) (some_left (sym c.is_empty.ensures ∙ c.if-is_empty.false))
 
 pub returns : goal.returns
 returns g c =
     let a = c.args in
-    let r = g.T.Element.reads in
     let w = g.T.Element.words in
-    let xs = g.T.Element.numbers a.text.now in
-    let ys = g.T.Element.numbers a.needle.now in
-    let accepted = refusal_read r a.text.now a.needle.now a.self ∙ sym c.accept.ensures ∙ c.in_default.is in
-    let walks = front_walks w xs ys a.self accepted _ _ _ (rw (r.front a.self.stop a.text.now) at c.walk-w.ensures) in
-    walked w xs ys a.self a.positions.now c.walk-w.result _ c.filled-2.result (some_left (sym c.is_empty.ensures ∙ c.if-is_empty.false)) walks c.filled-2.ensures
+    let walks = part_walks g.T.Element.reads w a.text.now a.needle.now a.self (sym c.accept.ensures ∙ c.in_default.is) _ _ _ c.walk-w.ensures in
+    walked w _ _ a.self a.positions.now c.walk-w.result _ c.filled-2.result (some_left (sym c.is_empty.ensures ∙ c.if-is_empty.false)) walks c.filled-2.ensures

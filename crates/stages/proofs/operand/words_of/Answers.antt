@@ -14,7 +14,7 @@ loop-i-init c = (search rules, refl)
 
 pub loop-i-preserved : goal.loop-i-preserved
 loop-i-preserved c =
-    (search rules, fill c.loop-i.a c.loop-i.i (word_at c.args.x) c.word.result (omega arith) c.loop-i.invariant.1 c.word.ensures)
+    (search rules, fill c.loop-i.a c.loop-i.i (word_at c.args.x) c.from_le_bytes.result (omega arith) c.loop-i.invariant.1 (omega (arith, c.from_le_bytes.ensures)))
 
 pub returns : goal.returns
 unfolding words_of

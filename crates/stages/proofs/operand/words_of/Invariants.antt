@@ -1,3 +1,4 @@
+-- The first i words are filled.
 use mathlib.Core.Path.{◌≡◌}
 use lib.ListN.{length, take}
 use Rattle.bits.specs.Bits.{tabulate}

@@ -9,4 +9,4 @@ pub returns : goal.returns
 unfolding words_of
 returns c =
     let a = c.args in
-    c.word.ensures ∙ sym (get_or_tabulate 8 a.i (word_at a.operand.now) 0 (omega arith))
+    omega (arith, c.from_le_bytes.ensures) ∙ sym (get_or_tabulate 8 a.i (word_at a.operand.now) 0 (omega arith))

@@ -1,7 +1,7 @@
 -- The places from p on are copied one place on, and then the new one is stored.
 use Rattle.std.proofs.Common.{arith, rules, length-set}
 use Rattle.schedule.proofs.Lists.{put_in}
-use Rattle.schedule.proofs.put.Goals as goal
+use Rattle.schedule.proofs.listed.put.Goals as goal
 
 pub returns : goal.returns
 returns c =
