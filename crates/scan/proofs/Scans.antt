@@ -166,7 +166,7 @@ index_is true operand1 l part i = refl
 index_is false operand1 l part i = refl
 
 -- an operand of no letters stands at place 0 of every block
-index_empty : (words : Bool) (operand1 part : List ℕ) (i : ℕ) → index_in words operand1 0 part i ≡ 0
+pub index_empty : (words : Bool) (operand1 part : List ℕ) (i : ℕ) → index_in words operand1 0 part i ≡ 0
 index_empty words operand1 part i =
     let b = count words in
     index_is words operand1 0 part i

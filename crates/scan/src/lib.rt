@@ -94,25 +94,30 @@ fn pass<T: Letter>(operand1: &[u8; 16], l: usize, part: &[T], from: usize) -> us
 }
 
 // The scan of a part whose first blocks have index b. Of the others only those are compared that
-// the letters do not rule out: a `for` over the blocks could not leave out the rest.
+// the letters do not rule out: a `for` over the blocks could not leave out the rest. `pass` is
+// called in one place, so that it is put into this loop, and its rows are made once, before it
+// (docs/PERFORMANCE.md).
 fn later<T: Letter>(operand1: &[u8; 16], l: usize, part: &[T], from: usize) -> Scanned
     requires { Begun T.words operand1.now l (T.numbers part.now) from }
     ensures { result ≡ scan_of T.words operand1.now l (T.numbers part.now) }
 {
     let b = T::COUNT;
     let whole = part.len() / b;
-    let mut i = pass(operand1, l, part, from);
+    let mut i = from;
     while i < whole {
-        let p = i * b;
-        let e = p + b;
-        let k = T::ordered_index(*operand1, l, blocks::whole(&part[p..e]), b);
-        if k != b as u32 {
-            return Scanned {
-                blocks: i,
-                index: k,
-            };
+        i = pass(operand1, l, part, i);
+        if i < whole {
+            let p = i * b;
+            let e = p + b;
+            let k = T::ordered_index(*operand1, l, blocks::whole(&part[p..e]), b);
+            if k != b as u32 {
+                return Scanned {
+                    blocks: i,
+                    index: k,
+                };
+            }
+            i += 1;
         }
-        i = pass(operand1, l, part, i + 1);
     }
     Scanned {
         blocks: i,
@@ -120,20 +125,28 @@ fn later<T: Letter>(operand1: &[u8; 16], l: usize, part: &[T], from: usize) -> S
     }
 }
 
-// The scan. In bytes the first block is compared straight away: mostly it answers. In words a
-// compare costs more than the test for four letters, so there the first block is tested too.
+// The scan. An operand of no letters stands at the front of the first block. In bytes the first
+// block is compared straight away: mostly it answers. In words a compare costs more than the test
+// for four letters, so there the first block is tested too. Each width calls `later` in one place,
+// for speed (docs/PERFORMANCE.md).
 pub fn scan<T: Letter>(operand1: [u8; 16], l: usize, part: &[T]) -> Scanned
     ensures { result ≡ scan_of T.words operand1 l (T.numbers part.now) }
 {
     let b = T::COUNT;
-    if b < 16 && l > 0 {
-        return later(&operand1, l, part, 0);
-    }
     if part.len() < b {
         return Scanned {
             blocks: 0,
             index: b as u32,
         };
+    }
+    if l == 0 {
+        return Scanned {
+            blocks: 0,
+            index: 0,
+        };
+    }
+    if b < 16 {
+        return later(&operand1, l, part, 0);
     }
     let k = T::ordered_index(operand1, l, blocks::whole(&part[..b]), b);
     if k != b as u32 {

@@ -10,18 +10,15 @@ returns-then-k-b g c =
     let is = c.COUNT-b.ensures ∙ g.T.Element.counted in
     let r = g.T.Element.reads in
     let w = g.T.Element.words in
-    ended r w a.operand1.now a.l a.part.now _ is c.loop-i.i _ c.loop-i.invariant c.loop-i-test.true (compared r w a.operand1.now a.l a.part.now _ is c.loop-i.i _ _ _ _ refl (omega arith) c.ordered_index-k.ensures c.whole.ensures) c.if-k-b.true
+    ended r w a.operand1.now a.l a.part.now _ is c.pass-i.result _ c.pass-i.ensures.passed c.if-i-whole.true (compared r w a.operand1.now a.l a.part.now _ is c.pass-i.result _ _ _ _ refl (omega arith) c.ordered_index-k.ensures c.whole.ensures) c.if-k-b.true
 
-pub pass-i-requires-in-loop-i : goal.pass-i-requires-in-loop-i
-pass-i-requires-in-loop-i g c =
+pub loop-i-preserved-then-i-whole : goal.loop-i-preserved-then-i-whole
+loop-i-preserved-then-i-whole g c =
     let a = c.args in
     let is = c.COUNT-b.ensures ∙ g.T.Element.counted in
     let r = g.T.Element.reads in
     let w = g.T.Element.words in
-    record {
-      some = c.requires.some;
-      passed = more r w a.operand1.now a.l a.part.now _ is c.loop-i.i _ c.loop-i.invariant c.loop-i-test.true (compared r w a.operand1.now a.l a.part.now _ is c.loop-i.i _ _ _ _ refl (omega arith) c.ordered_index-k.ensures c.whole.ensures) c.if-k-b.false;
-    }
+    more r w a.operand1.now a.l a.part.now _ is c.pass-i.result _ c.pass-i.ensures.passed c.if-i-whole.true (compared r w a.operand1.now a.l a.part.now _ is c.pass-i.result _ _ _ _ refl (omega arith) c.ordered_index-k.ensures c.whole.ensures) c.if-k-b.false
 
 pub returns : goal.returns
 returns g c =
