@@ -32,6 +32,12 @@ module _ {A : Type 0} {numbers : List A → List ℕ} {number : A → ℕ} (r : 
   long : n ≡ min (length (numbers xs)) (length (numbers ys))
   long = omega (arith, r.long xs, r.long ys)
 
+  -- in the first element
+  pub difference_at_front : (a b : ℕ) → 0 < length xs → 0 < length ys → get_or (numbers xs) 0 0 ≡ a → get_or (numbers ys) 0 0 ≡ b → not (eqb a b) ≡ true → difference (numbers xs) (numbers ys) ≡ 0
+  unfolding difference
+  difference_at_front a b hx hy ha hb t =
+      least_at (min (length (numbers xs)) (length (numbers ys))) (differ_at (numbers xs) (numbers ys)) 0 (omega (arith, r.long xs, r.long ys)) (λ j h. absurd (omega arith)) (rw (ha, hb) t)
+
   -- past the last block
   pub difference_none : (i : ℕ) → i ≡ n → ClearTo (numbers xs) (numbers ys) i → n ≡ difference (numbers xs) (numbers ys)
   unfolding difference

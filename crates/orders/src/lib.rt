@@ -6,7 +6,7 @@
 // - `accept_lesser` takes the arguments of `lesser` and tells what refuses it, if anything does.
 #![tactic(auto)]
 
-ghost use Rattle.std.specs.Prelude.{◌≡◌, ◌≤◌, cond, length};
+ghost use Rattle.std.specs.Prelude.{◌≡◌, ◌≤◌, cond, length, true};
 ghost use Rattle.blocks.specs.Blocks.{longest_text};
 ghost use Rattle.orders.specs.Orders.{difference, is_second, lesser_text, order, order_answer, order_refusal, ordering_of};
 
@@ -24,13 +24,27 @@ fn accept(n: usize, m: usize) -> Result<(), Refusal>
     Ok(())
 }
 
+// Whether two texts differ in their first element.
+fn fronts_differ<T: Letter>(first: &[T], second: &[T]) -> bool
+    ensures { result ≡ true → difference (T.numbers first.now) (T.numbers second.now) ≡ 0 }
+{
+    if first.len().min(second.len()) == 0 {
+        return false;
+    }
+    !(first[0] == second[0])
+}
+
 // The first place where two texts differ, or the end of the shorter. Equal stretches go by in
-// blocks.
+// blocks. Most texts differ in their first element, and then no block is compared, for speed
+// (docs/PERFORMANCE.md).
 fn difference<T: Letter>(first: &[T], second: &[T]) -> usize
     requires { (length first.now ≤ longest_text) × (length second.now ≤ longest_text) }
     ensures { result ≡ difference (T.numbers first.now) (T.numbers second.now) }
 {
     let n = first.len().min(second.len());
+    if fronts_differ(first, second) {
+        return 0;
+    }
     for i in (0..n).step_by(T::COUNT) {
         let e = (i + T::COUNT).min(n);
         let k = blocks::differ_at(&first[i..e], &second[i..e]) as usize;

@@ -23,6 +23,6 @@ returns-else-k-COUNT g c =
     (omega (arith, E.counted)) (omega arith) c.loop-i.invariant.1 c.differ_at-k.ensures (omega (arith, E.counted)) in
     difference_none E.reads c.args.first.now c.args.second.now c.min-n.result c.min-n.ensures c.min-e.result (omega arith) clear
 
-pub returns : goal.returns
-returns g c =
+pub returns-else-fronts_differ : goal.returns-else-fronts_differ
+returns-else-fronts_differ g c =
     difference_none g.T.Element.reads c.args.first.now c.args.second.now c.min-n.result c.min-n.ensures c.loop-i.i (omega arith) c.loop-i.invariant.1
