@@ -1,15 +1,15 @@
 -- The laws of a refusal, a column and a written buffer. A caller that knows `n < 10 ^ w` uses
 -- `accepts`, `writes` or `fills`, and `length_column`. Assumes nothing.
-use Prim.Native.Nat.{ℕ, zero, suc, ◌+◌, ◌-◌, ◌^◌, ◌≤◌, ◌<◌}
+use Prim.Native.Nat.{ℕ, zero, suc, ◌-◌, ◌^◌, ◌≤◌, ◌<◌}
 use mathlib.Core.Path.{◌≡◌, refl, sym, ap, ◌∙◌}
-use mathlib.Core.List.{List, ◌++◌, append-nil, append_assoc}
+use mathlib.Core.List.{List, ◌++◌, append-nil}
 use lib.Seq.{take_at, drop_at}
 use mathlib.Core.Logic.{by_cases}
 use native.Mathlib.Decide.{dec_lt}
 use native.Mathlib.Omega.{arith}
-use lib.ListN.{length, drop, replicate, length-append, length-drop, length-replicate, replicate-append-replicate, drop_of_length-le}
-use borrow.Rule.Slice.PartMut.{put_mid}
+use lib.ListN.{length, take, drop, replicate, length-append, length-drop, length-replicate, drop_of_length-le}
 use Rattle.std.proofs.lemmas.Grind.{common_steps}
+use Rattle.std.proofs.lemmas.List.{take-replicate}
 use Rattle.std.specs.Prelude.{Result, Ok, Err}
 use Rattle.refusals.specs.declared.Refusal.{Refusal}
 use Rattle.refusals.specs.declared.Refusal.TheVariants.{Width, Buffer}
@@ -118,21 +118,16 @@ module _ (n w k : ℕ) (buffer : List ℕ) (e : k ≡ length (digits n)) where
       let t = refusal_told n k w (length buffer) e h in
       record { answer = t; buffer = sym (written_err n w buffer r (sym t ∙ q)) }
 
-  -- accepted, the spaces and then the digits at their end have been put
-  pub put_accepted : (spaces ds : List ℕ) → Ok tt ≡ refusal_for k w (length buffer) → spaces ≡ replicate w 32 → ds ≡ digits n
-      → RightJustified n w buffer (put_mid (w - k) (w - (w - k)) (spaces ++ drop w buffer) ds) (Ok tt)
+  -- accepted, the spaces and then the digits have been put at the end of the width
+  pub filled_accepted : (spaces places : List ℕ) → Ok tt ≡ refusal_for k w (length buffer) → spaces ≡ replicate w 32
+      → places ≡ take (length (take w (spaces ++ drop w buffer)) - length (digits n)) (take w (spaces ++ drop w buffer)) ++ digits n
+      → RightJustified n w buffer (places ++ drop w (spaces ++ drop w buffer)) (Ok tt)
   unfolding column
-  put_accepted spaces ds h s d =
+  filled_accepted spaces places h s d =
       let t = refusal_told n k w (length buffer) e h in
-      let f = accepted_fits n w (length buffer) (sym t) in
-      let u : w - k + (w - (w - k)) ≡ w = omega (arith, f, e) in
-      let split : replicate {A = ℕ} w 32 ≡ replicate (w - k) 32 ++ replicate (w - (w - k)) 32 =
-      sym (replicate-append-replicate (w - k) (w - (w - k)) 32 ∙ rw u) in
-      let l : length (replicate {A = ℕ} (w - k) 32) ≡ w - k = length-replicate (w - k) 32 in
-      let m : length (replicate {A = ℕ} (w - (w - k)) 32) ≡ w - (w - k) = length-replicate (w - (w - k)) 32 in
+      let l : length (replicate {A = ℕ} w 32) ≡ w = length-replicate w 32 in
       record {
         answer = t;
         buffer =
-            rw (written_accepted n w buffer (sym t), s, d, ← e, split, append_assoc, take_at (replicate (w - k) 32) (replicate (w - (w - k)) 32 ++ drop w buffer) (w - k) l, drop_at (replicate (w - k) 32) (replicate (w - (w - k)) 32 ++ drop w buffer) (w - k) l, drop_at (replicate (w - (w - k)) 32) (drop w buffer) (w - (w - k)) m)
-            (sym (append_assoc (replicate (w - k) 32) (digits n) (drop w buffer)));
+            rw (written_accepted n w buffer (sym t), d, s, take_at (replicate w 32) (drop w buffer) w l, drop_at (replicate w 32) (drop w buffer) w l, l, take-replicate {X = ℕ} (w - length (digits n)) w 32 (omega arith));
       }

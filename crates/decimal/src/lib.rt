@@ -4,7 +4,7 @@
 // Public call: `right_justified`. It asks nothing of its arguments.
 #![tactic(auto)]
 
-ghost use Rattle.std.specs.Prelude.{◌+◌, ◌<◌, ◌≡◌, length};
+ghost use Rattle.std.specs.Prelude.{◌+◌, ◌-◌, ◌≤◌, ◌<◌, ◌≡◌, ◌++◌, length, take};
 ghost use Rattle.decimal.specs.Decimal.{digits, refusal_for, RightJustified};
 
 use refusals::Refusal;
@@ -53,16 +53,22 @@ fn digit(value: u64) -> u8
     b'0' + value as u8
 }
 
-// Writes the digits of a number into as many places, the last one first. By hand, since of a
-// `write!` into a slice the check learns only how much of it is left, and not the bytes.
+// Writes the digits of a number at the end of its places, the last one first, and leaves the places
+// before them. It does not ask how many digits there are, so that where the width is a constant the
+// count is no more than one comparison. By hand, since of a `write!` into a slice the check learns
+// only how much of it is left, and not the bytes.
 fn put_digits(number: u64, places: &mut [u8])
-    requires { length places.old ≡ length (digits number) }
-    ensures { places.new ≡ digits number }
+    requires { length (digits number) ≤ length places.old }
+    ensures { places.new
+        ≡ take (length places.old - length (digits number)) places.old ++ digits number }
 {
     let mut rest = number;
     for i in (0..places.len()).rev() {
         places[i] = digit(rest % 10);
         rest /= 10;
+        if rest == 0 {
+            break;
+        }
     }
 }
 
@@ -77,6 +83,6 @@ pub fn right_justified(number: u64, width: usize, buffer: &mut [u8]) -> Result<(
     accept(count, width, room)?;
     // all columns, for speed: where the width is a constant, so is what is filled
     buffer[..width].fill(b' ');
-    put_digits(number, &mut buffer[width - count..width]);
+    put_digits(number, &mut buffer[..width]);
     Ok(())
 }
