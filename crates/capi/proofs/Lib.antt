@@ -1,1 +1,2 @@
--- What the proofs of several functions use.
+-- What the proofs of several functions use, and what is said of the calls for C.
+pub mod Slowest

@@ -60,7 +60,7 @@ module _ (es : List Entry) (n : ℕ) where
   too_many h = rw (lt-ltb 200 n h)
 
   -- one that is bad
-  one_bad : (i : ℕ) → n ≤ 200 → i < n → bad_at i ≡ true → form_refusal es n ≡ Err TheVariants.Entry
+  pub one_bad : (i : ℕ) → n ≤ 200 → i < n → bad_at i ≡ true → form_refusal es n ≡ Err TheVariants.Entry
   unfolding form_refusal
   one_bad i h u e = rw (le-ltb 200 n h, any_at bad_at n i u e)
 

@@ -162,7 +162,7 @@ module _ (words : Bool) (text needle : List ℕ) (c : Cursor) (accepted : refusa
   abbrev cut : List ℕ
   cut = take c.stop text
 
-  front_length : length cut ≡ c.stop
+  pub front_length : length cut ≡ c.stop
   front_length = length-take-le c.stop text (accepted_is (length text) (length needle) c accepted).stop
 
   front_alike : AlikeBelow c.stop cut text
@@ -176,7 +176,7 @@ module _ (words : Bool) (text needle : List ℕ) (c : Cursor) (accepted : refusa
       }
 
   -- it may be walked
-  front_walkable : (l : ℕ) (list : List ℕ) → l ≡ min (count words) (length needle) → 0 < length list → Walkable words cut needle l c list
+  pub front_walkable : (l : ℕ) (list : List ℕ) → l ≡ min (count words) (length needle) → 0 < length list → Walkable words cut needle l c list
   front_walkable l list size places = record {
     accepted = refusal_alike words cut text needle c.stop front_alike c refl ∙ accepted;
     cut = sym front_length;
@@ -185,7 +185,7 @@ module _ (words : Bool) (text needle : List ℕ) (c : Cursor) (accepted : refusa
   }
 
   -- and its walk is the whole text's
-  front_walks : (list : List ℕ) (w : Walked) (list' : List ℕ) → Walks (next_match words cut needle) c list w list' → Walks (next_match words text needle) c list w list'
+  pub front_walks : (list : List ℕ) (w : Walked) (list' : List ℕ) → Walks (next_match words cut needle) c list w list' → Walks (next_match words text needle) c list w list'
   front_walks list w list' walks =
       let same = from_alike words cut text needle c.stop front_alike (length list) c refl in record {
         answer = walks.answer ∙ ap answer_of same;
